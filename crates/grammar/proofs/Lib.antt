@@ -1,0 +1,9 @@
+pub mod Moves
+pub mod Stacks
+pub mod Spelled
+pub mod Unique
+pub mod Prefixes
+pub mod Verdicts
+pub mod Settled
+pub mod Endings
+pub mod Decided

@@ -1,0 +1,5 @@
+pub mod Syntax
+pub mod Grammar
+pub mod Limits
+pub mod Reading
+pub mod Machine
