@@ -1,0 +1,12 @@
+pub mod Admitting
+pub mod Bytes
+pub mod Going
+pub mod Chains
+pub mod Counts
+pub mod Holding
+pub mod Lengths
+pub mod PathParts
+pub mod PatternParts
+pub mod Placing
+pub mod Taking
+pub mod Verdicts

@@ -1,0 +1,5 @@
+pub mod Arena
+pub mod Views
+pub mod Outcomes
+pub mod Admission
+pub mod Answers

@@ -1,0 +1,10 @@
+// The place that questions are read into.
+use crate::question::Question;
+use crate::reader::Reader;
+
+// It holds a question at any time, the empty group at first. A text is read in the reader's own memory.
+#[derive(Drop)]
+pub struct Draft {
+    pub(crate) question: Question,
+    pub(crate) reader: Reader,
+}
