@@ -100,18 +100,28 @@ module _ (text : List ℕ) {a b : Reader} (h : Beside a b) (deep : b .depth ≡ 
     go : (k : Kind) → t .kind ≡ k → length (nameOf text (t .span)) ≤ 128 → Admission (termWord k (nameOf text (t .span))) text a b (Ok n)
     go Iri e short =
         let same : termOf text t ≡ record { kind = Iri; bytes = nameOf text (t .span) } = ap (λ k. record { kind = k; bytes = nameOf text (t .span) }) e in
-        record { is = record {
-          clear = within 128 (length (nameOf text (t .span))) short;
-          seen = seen-is ∙ ap (λ u. record { depth = a .depth; names = seenOf text a .names; terms = seenOf text a .terms ++ u ∷ [] }) same;
-          next = h .next; idle = idle text h; numbered = subst (Stands (seenOf text b .terms) n) same stands; few = few;
-        } }
+        record {
+          is = record {
+            clear = within 128 (length (nameOf text (t .span))) short;
+            seen = seen-is ∙ ap (λ u. record { depth = a .depth; names = seenOf text a .names; terms = seenOf text a .terms ++ u ∷ [] }) same;
+            next = h .next;
+            idle = idle text h;
+            numbered = subst (Stands (seenOf text b .terms) n) same stands;
+            few = few;
+          };
+        }
     go Literal e short =
         let same : termOf text t ≡ record { kind = Literal; bytes = nameOf text (t .span) } = ap (λ k. record { kind = k; bytes = nameOf text (t .span) }) e in
-        record { is = record {
-          clear = within 128 (length (nameOf text (t .span))) short;
-          seen = seen-is ∙ ap (λ u. record { depth = a .depth; names = seenOf text a .names; terms = seenOf text a .terms ++ u ∷ [] }) same;
-          next = h .next; idle = idle text h; numbered = subst (Stands (seenOf text b .terms) n) same stands; few = few;
-        } }
+        record {
+          is = record {
+            clear = within 128 (length (nameOf text (t .span))) short;
+            seen = seen-is ∙ ap (λ u. record { depth = a .depth; names = seenOf text a .names; terms = seenOf text a .terms ++ u ∷ [] }) same;
+            next = h .next;
+            idle = idle text h;
+            numbered = subst (Stands (seenOf text b .terms) n) same stands;
+            few = few;
+          };
+        }
 
     pub term-kept : length (nameOf text (t .span)) ≤ 128 → Admission (termWord (t .kind) (nameOf text (t .span))) text a b (Ok n)
     term-kept short = go (t .kind) refl short
@@ -119,11 +129,16 @@ module _ (text : List ℕ) {a b : Reader} (h : Beside a b) (deep : b .depth ≡ 
   -- a name more, or one that was seen before
   module _ (terms : b .built .terms ≡ a .built .terms) (s : Span) (n : ℕ) where
     name-admitted : limit (seenOf text a) (name (nameOf text s)) ≡ None → seenOf text b .names ≡ noted (nameOf text s) (seenOf text a .names) → Stands (seenOf text b .names) n (nameOf text s) → Admission (name (nameOf text s)) text a b (Ok n)
-    name-admitted clear names there = record { is = record {
-      clear = clear;
-      seen = λ i. record { depth = deep i; names = names i; terms = map (termOf text) (vec-items (terms i)) };
-      next = h .next; idle = idle text h; numbered = there; few = omega (arith, ap (λ v. length (vec-items v)) terms);
-    } }
+    name-admitted clear names there = record {
+      is = record {
+        clear = clear;
+        seen = λ i. record { depth = deep i; names = names i; terms = map (termOf text) (vec-items (terms i)) };
+        next = h .next;
+        idle = idle text h;
+        numbered = there;
+        few = omega (arith, ap (λ v. length (vec-items v)) terms);
+      };
+    }
 
     pub name-new : vec-items (b .built .names) ≡ vec-items (a .built .names) ++ s ∷ [] → n ≡ length (vec-items (a .built .names)) → n < 8 → length (nameOf text s) ≤ 16 → known (nameOf text s) (seenOf text a .names) ≡ false → Admission (name (nameOf text s)) text a b (Ok n)
     name-new names at less short un =
@@ -149,13 +164,17 @@ term-long Literal x h = record { is = record { limited = beyond 128 (length x) h
 
 module _ {text : List ℕ} {a b : Reader} (x : Name) (un : known x (seenOf text a .names) ≡ false) where
   pub ninth : 8 ≤ length (vec-items (a .built .names)) → Admission (name x) text a b (Err TooManyVariables)
-  ninth many = record { is = record {
-    limited = unknown x (seenOf text a) un ∙ crowded x (seenOf text a) (omega (arith, length-map (vec-items (a .built .names)) (nameOf text)));
-    apart = too-many;
-  } }
+  ninth many = record {
+    is = record {
+      limited = unknown x (seenOf text a) un ∙ crowded x (seenOf text a) (omega (arith, length-map (vec-items (a .built .names)) (nameOf text)));
+      apart = too-many;
+    };
+  }
 
   pub name-long : length (vec-items (a .built .names)) < 8 → 16 < length x → Admission (name x) text a b (Err TooLong)
-  name-long few h = record { is = record {
-    limited = unknown x (seenOf text a) un ∙ roomy x (seenOf text a) (omega (arith, length-map (vec-items (a .built .names)) (nameOf text))) ∙ beyond 16 (length x) h;
-    apart = too-long;
-  } }
+  name-long few h = record {
+    is = record {
+      limited = unknown x (seenOf text a) un ∙ roomy x (seenOf text a) (omega (arith, length-map (vec-items (a .built .names)) (nameOf text))) ∙ beyond 16 (length x) h;
+      apart = too-long;
+    };
+  }

@@ -30,16 +30,16 @@ and-right false q h = absurd (let z : _≡_ {A = ℕ} 0 1 = cc in omega arith)
 pub part-within : (text : List ℕ) (s e m n : ℕ) → m ≡ min e (length text) → n ≡ min s m → take (m - n) (drop n text) ≡ part text s e
 part-within text s e m n hm hn =
     elim (order s (length text)) [
-      inl h ↦ elim (order e (length text)) [
-          inl g ↦ (elim (order e s) [
-              inl f ↦ (let x : m - n ≡ 0 = omega arith in let y : e - s ≡ 0 = omega arith in ap (λ k. take k (drop n text)) x ∙ sym (ap (λ k. take k (drop s text)) y))
-            | inr f ↦ (let x : m ≡ e = omega arith in let y : n ≡ s = omega arith in λ i. take (x i - y i) (drop (y i) text))
-            ])
+      | inl h ↦ elim (order e (length text)) [
+        | inl g ↦ (elim (order e s) [
+          | inl f ↦ (let x : m - n ≡ 0 = omega arith in let y : e - s ≡ 0 = omega arith in ap (λ k. take k (drop n text)) x ∙ sym (ap (λ k. take k (drop s text)) y))
+          | inr f ↦ (let x : m ≡ e = omega arith in let y : n ≡ s = omega arith in λ i. take (x i - y i) (drop (y i) text))
+        ])
         | inr g ↦ (let y : n ≡ s = omega arith in
             ap (λ k. take (m - k) (drop k text)) y ∙ take-all (m - s) (drop s text) (omega (arith, length-drop s text)) ∙ sym (take-all (e - s) (drop s text) (omega (arith, length-drop s text))))
-        ]
-    | inr h ↦ (let x : m - n ≡ 0 = omega arith in
-        ap (λ k. take k (drop n text)) x ∙ sym (ap (take (e - s)) (drop-all s text h) ∙ take-all (e - s) [] (omega arith)))
+      ]
+      | inr h ↦ (let x : m - n ≡ 0 = omega arith in
+          ap (λ k. take k (drop n text)) x ∙ sym (ap (take (e - s)) (drop-all s text h) ∙ take-all (e - s) [] (omega arith)))
     ]
 
 pub same-bytes-is : (xs ys : List ℕ) → sameBytes xs ys ≡ true → xs ≡ ys

@@ -98,7 +98,7 @@ module _ {X : Type 0} {k part tail : Kind} {sign : Token} (c : Chained X k part 
               went = went-then (went-on (went-on onto (h .went)) (y .went)) (over (a tail ∷ []));
               goes = λ u w e.
                   let reads = took-reads h ∙ ap (λ b. b ∷ words (r .spots)) (c .bare (content (h .word)))
-                        ∙ ap (λ l. saying sign [] ∷ l) (y .reads ∙ ap (spell (y .tree)) (sym (ap words (z .spots)) ∙ e)) ∙ sym (c .more-spells (y .tree) u w) in
+                  ∙ ap (λ l. saying sign [] ∷ l) (y .reads ∙ ap (spell (y .tree)) (sym (ap words (z .spots)) ∙ e)) ∙ sym (c .more-spells (y .tree) u w) in
                   let g = x .goes (c .more (y .tree) u) w reads in
                   (g .0, g .1, g .2 ∙ c .more-means (y .tree) u (x .value));
               counted =
@@ -114,36 +114,69 @@ module _ {X : Type 0} {k part tail : Kind} {sign : Token} (c : Chained X k part 
 
 abbrev pub alternating : Chained Paths is-path is-sequence is-alternatives Bar
 alternating = record {
-  whole = λ t. means t; of = λ t. means t; rest = λ t. means t; join = path; more = alternatives; none = no-alternatives; op = alternative; size = pathNodes;
+  whole = λ t. means t;
+  of = λ t. means t;
+  rest = λ t. means t;
+  join = path;
+  more = alternatives;
+  none = no-alternatives;
+  op = alternative;
+  size = pathNodes;
   opens = λ s. refl;
   goes = λ s e. this-way (the Bar ∷ a is-sequence ∷ a is-alternatives ∷ []) [] e;
   ends = λ s n. other-way (the Bar ∷ a is-sequence ∷ a is-alternatives ∷ []) [] n;
   bare = λ x. refl;
-  join-spells = λ s t w. refl; more-spells = λ s t w. refl; none-spells = λ w. refl;
-  join-means = λ s t. refl; more-means = λ s t x. refl; none-means = λ x. refl;
+  join-spells = λ s t w. refl;
+  more-spells = λ s t w. refl;
+  none-spells = λ w. refl;
+  join-means = λ s t. refl;
+  more-means = λ s t x. refl;
+  none-means = λ x. refl;
   grows = λ x y. refl;
 }
 
 abbrev pub stepping : Chained Paths is-sequence is-step is-steps Slash
 stepping = record {
-  whole = λ t. means t; of = λ t. means t; rest = λ t. means t; join = chain; more = steps; none = no-steps; op = sequence; size = pathNodes;
+  whole = λ t. means t;
+  of = λ t. means t;
+  rest = λ t. means t;
+  join = chain;
+  more = steps;
+  none = no-steps;
+  op = sequence;
+  size = pathNodes;
   opens = λ s. refl;
   goes = λ s e. this-way (the Slash ∷ a is-step ∷ a is-steps ∷ []) [] e;
   ends = λ s n. other-way (the Slash ∷ a is-step ∷ a is-steps ∷ []) [] n;
   bare = λ x. refl;
-  join-spells = λ s t w. refl; more-spells = λ s t w. refl; none-spells = λ w. refl;
-  join-means = λ s t. refl; more-means = λ s t x. refl; none-means = λ x. refl;
+  join-spells = λ s t w. refl;
+  more-spells = λ s t w. refl;
+  none-spells = λ w. refl;
+  join-means = λ s t. refl;
+  more-means = λ s t x. refl;
+  none-means = λ x. refl;
   grows = λ x y. refl;
 }
 
 abbrev pub uniting : Chained Patterns is-groups is-group is-unions Union
 uniting = record {
-  whole = λ t. means t; of = λ t. means t; rest = λ t. means t; join = groups; more = unions; none = no-unions; op = union; size = nodes;
+  whole = λ t. means t;
+  of = λ t. means t;
+  rest = λ t. means t;
+  join = groups;
+  more = unions;
+  none = no-unions;
+  op = union;
+  size = nodes;
   opens = λ s. refl;
   goes = λ s e. this-way (the Union ∷ a is-group ∷ a is-unions ∷ []) [] e;
   ends = λ s n. other-way (the Union ∷ a is-group ∷ a is-unions ∷ []) [] n;
   bare = λ x. refl;
-  join-spells = λ s t w. refl; more-spells = λ s t w. refl; none-spells = λ w. refl;
-  join-means = λ s t. refl; more-means = λ s t x. refl; none-means = λ x. refl;
+  join-spells = λ s t w. refl;
+  more-spells = λ s t w. refl;
+  none-spells = λ w. refl;
+  join-means = λ s t. refl;
+  more-means = λ s t x. refl;
+  none-means = λ x. refl;
   grows = λ x y. refl;
 }

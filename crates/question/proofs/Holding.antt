@@ -48,7 +48,7 @@ grown h ns ms g =
     let m = grow-grows h (grow h [] ns) (g .0) in
     (m .0, e ∙ m .1)
 
-grow-length : {X N : Type 0} (h : List X → N → X) (xs : List X) (ns : List N) → length (grow h xs ns) ≡ length xs + length ns
+pub grow-length : {X N : Type 0} (h : List X → N → X) (xs : List X) (ns : List N) → length (grow h xs ns) ≡ length xs + length ns
 grow-length h xs [] = omega arith
 grow-length h xs (n ∷ ns) = grow-length h (xs ++ h xs n ∷ []) ns ∙ omega (arith, length-push xs (h xs n))
 

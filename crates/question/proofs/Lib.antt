@@ -1,8 +1,9 @@
 pub mod Admitting
 pub mod Bytes
-pub mod Going
 pub mod Chains
 pub mod Counts
+pub mod Fitting
+pub mod Going
 pub mod Holding
 pub mod Lengths
 pub mod PathParts

@@ -186,13 +186,15 @@ module _ {p : View} where
   other-sign e h = failed-in (opened-other e) h
 
   pub other-out : {q r : View} {n : ℕ} → lead (words (p .spots)) ≡ Bang → Took Bang p q n → (o : Result ℕ Fault) → PathRead is-negation (λ t. means t) q r o → PathRead is-base (λ t. means t) p r o
-  other-out e h (Ok i) x = record { is = record {
-    tree = other (x .is .tree);
-    reads = took-reads h ∙ ap (λ v. saying Bang [] ∷ v) (x .is .reads);
-    went = went-on (went-on (opened-other e) (h .went)) (x .is .went);
-    counted = counted-after (h .idle) (x .is .counted);
-    held = x .is .held;
-  } }
+  other-out e h (Ok i) x = record {
+    is = record {
+      tree = other (x .is .tree);
+      reads = took-reads h ∙ ap (λ v. saying Bang [] ∷ v) (x .is .reads);
+      went = went-on (went-on (opened-other e) (h .went)) (x .is .went);
+      counted = counted-after (h .idle) (x .is .counted);
+      held = x .is .held;
+    };
+  }
   other-out e h (Err f) x = record { is = failed-in (went-on (opened-other e) (h .went)) (x .is) }
 
   module _ (e : lead (words (p .spots)) ≡ OpenParen) where

@@ -58,6 +58,8 @@ module _ {p : View} where
       went = went-on opened-variable (h .went);
       idle = h .idle;
       held = record { stands = λ e s. ap variable (s .names i (content (h .word)) (took-number h)) };
+      terms = omega arith;
+      names = omega (arith, took-number h .within);
     }
 
   pub iri-fails : {f : Fault} → lead (words (p .spots)) ≡ Iri → Failed (the Iri) p f → Failed (a is-end) p f
@@ -70,6 +72,8 @@ module _ {p : View} where
     went = went-on (opened-iri e) (h .went);
     idle = h .idle;
     held = record { stands = λ e s. ap constant (s .terms i (iriTerm (content (h .word))) (took-number h)) };
+    terms = omega (arith, took-number h .within);
+    names = omega arith;
   }
 
   pub literal-fails : {f : Fault} → lead (words (p .spots)) ≡ Literal → Failed (the Literal) p f → Failed (a is-end) p f
@@ -82,6 +86,8 @@ module _ {p : View} where
     went = went-on (opened-literal e) (h .went);
     idle = h .idle;
     held = record { stands = λ e s. ap constant (s .terms i (literalTerm (content (h .word))) (took-number h)) };
+    terms = omega (arith, took-number h .within);
+    names = omega arith;
   }
 
 -- ---- a line

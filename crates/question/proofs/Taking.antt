@@ -113,20 +113,22 @@ module _ (text : List ℕ) (p m : Reader) (k : Lexeme) (t : Token) (n : ℕ) whe
     idle = record { paths = ok .idle .paths; patterns = ok .idle .patterns; count = ok .idle .count; full = ok .idle .full }
 
     pub took : Outcome (the t) (view text p) (λ i. Took t (view text p) (view text (record { next = k; depth = m .depth; full = m .full; built = m .built })) i) (Ok n)
-    took = record { is = record {
-      word = said text (p .next);
-      sorted = sorted;
-      reads = ap words spots-are;
-      went = record {
-        reach = λ ρ. subst (λ v. Reaches (the t ∷ ρ) v ρ (words (ahead text k))) (sym (ap words spots-are)) (reach-take t (said text (p .next)) (ap (same t) sorted ∙ same-refl t) reach-stay);
-        passes = record { passed = record { at = p .next .start; word = said text (p .next) } ∷ []; split = spots-are; clear = (ok .clear, tt); gathers = sym (ok .seen) };
-        kept = kept-idle idle (omega (arith, falls));
+    took = record {
+      is = record {
+        word = said text (p .next);
+        sorted = sorted;
+        reads = ap words spots-are;
+        went = record {
+          reach = λ ρ. subst (λ v. Reaches (the t ∷ ρ) v ρ (words (ahead text k))) (sym (ap words spots-are)) (reach-take t (said text (p .next)) (ap (same t) sorted ∙ same-refl t) reach-stay);
+          passes = record { passed = record { at = p .next .start; word = said text (p .next) } ∷ []; split = spots-are; clear = (ok .clear, tt); gathers = sym (ok .seen) };
+          kept = kept-idle idle (omega (arith, falls));
+        };
+        seen = ok .seen;
+        idle = idle;
+        numbered = ok .numbered;
+        falls = falls;
       };
-      seen = ok .seen;
-      idle = idle;
-      numbered = ok .numbered;
-      falls = falls;
-    } }
+    }
 
     pub ready-after : Ready text (record { next = k; depth = m .depth; full = m .full; built = m .built })
     ready-after = record {

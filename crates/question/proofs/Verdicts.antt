@@ -13,7 +13,7 @@ use Rattle.tokens.specs.Lexed.{Spot, said, final, tokensFrom, ahead, tokens}
 use Rattle.grammar.specs.declared.refusal.Reason.{Reason}
 use Rattle.grammar.specs.declared.refusal.Reason.the-variants.{NoQuestion, TooDeep, TooManyVariables, TooLong}
 use Rattle.grammar.specs.declared.refusal.Fault.{Fault}
-use Rattle.grammar.specs.Syntax.{nodes, empty, negated}
+use Rattle.grammar.specs.Syntax.{nodes, empty}
 use Rattle.grammar.specs.Grammar.{Kind, is-question, is-group, Tree, whole, spell, means, iriTerm}
 use Rattle.grammar.specs.Limits.{Seen, nothing, gather, limit, Clear}
 use Rattle.grammar.specs.Reading.{words, Lawful, Begins, Refuses, Faulty}
@@ -21,11 +21,13 @@ use Rattle.grammar.specs.Reading as reading
 use Rattle.grammar.specs.Machine.{Symbol, the, a, Reaches}
 use Rattle.grammar.proofs.Moves.{same-is}
 use Rattle.grammar.proofs.Prefixes.{viable-prefix, going-prefix, dead-prefix}
+use Rattle.question.specs.declared.question.Question.{Question}
 use Rattle.question.specs.declared.reader.Reader.{Reader}
-use Rattle.question.specs.Arena.{Env, pathAt}
 use Rattle.question.specs.Views.{View, view, seenOf, Went, Passes, Failed, Because, Stopped, Sees}
-use Rattle.question.specs.Answers.{Fresh, env, askedAt}
+use Rattle.question.specs.Answers.{Fresh}
+use Rattle.question.specs.Asking.{env, askedAt, asked}
 use Rattle.question.proofs.Going.{words-++, clear-on, gathers-on, went-open, went-on, failed-in}
+use Rattle.question.proofs.Fitting.{sees}
 use Rattle.question.proofs.PatternParts.{PatternDone}
 use Rattle.question.proofs.Taking.{said-end}
 
@@ -85,10 +87,6 @@ module _ (text : List ℕ) {p : View} (spots : p .spots ≡ tokens text) (seen :
 
 -- ---- a question
 
--- the numbers of a question stand for what it has by them
-sees : (text : List ℕ) (r : Reader) → Sees (view text r) (env text (r .built))
-sees text r = record { terms = λ i x s. s .is (iriTerm []); names = λ i x s. s .is []; paths = λ i x s. s .is (negated []) }
-
 module _ (text : List ℕ) {p : View} (r : Reader) (root : ℕ) (spots : p .spots ≡ tokens text) (seen : p .seen ≡ nothing) (g : PatternDone is-group (λ t. means t) p (view text r) root) (last : words (view text r .spots) ≡ end ∷ []) (short : length text ≤ 2048) where
   pub a-question : p .count ≡ 0 → r .full ≡ false → reading.Question text (askedAt text root (r .built))
   a-question none free =
@@ -101,3 +99,8 @@ module _ (text : List ℕ) {p : View} (r : Reader) (root : ℕ) (spots : p .spot
         names = ap (λ s. s .names) seen-is;
         terms = ap (λ s. s .terms) seen-is;
       }
+
+-- the nodes that were counted are those of the pattern
+pub counted-all : (text : List ℕ) {p : View} (r : Reader) (root : ℕ) (g : PatternDone is-group (λ t. means t) p (view text r) root) → p .count ≡ 0 → r .full ≡ false
+    → (q : Question) → q .nodes ≡ r .built .nodes → asked q ≡ askedAt text root (r .built) → q .nodes ≡ nodes (asked q .pattern)
+counted-all text r root g none free q kept e = omega (arith, g .counted .short free, none, kept, ap nodes (g .held free .stands (env text (r .built)) (sees text r) .is empty), ap (λ x. nodes (x .pattern)) e)

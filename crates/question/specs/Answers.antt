@@ -1,10 +1,9 @@
--- What a question asks, and what reading a text answers.
+-- What a draft holds, and what reading a text answers.
 use mathlib.Core.Path.{_≡_}
 use mathlib.Core.Bool.{false}
-use mathlib.Core.List.{List, [], map}
+use mathlib.Core.List.{List}
 use Prim.Native.Nat.{ℕ, _≤_}
-use lib.ListN.{length, getD}
-use Rattle.std.specs.Of.Vec.{vec-items}
+use lib.ListN.{length}
 use Rattle.std.specs.declared.option.Option.{Option}
 use Rattle.std.specs.declared.option.Option.the-variants.{Some, None}
 use Rattle.std.specs.declared.result.Result.{Result}
@@ -13,41 +12,17 @@ use Rattle.terms.specs.declared.kind.Kind.{Kind}
 use Rattle.terms.specs.Terms.{Term}
 use Rattle.tokens.specs.Lexed.{tokens}
 use Rattle.grammar.specs.declared.refusal.Refusal.{Refusal}
-use Rattle.grammar.specs.Syntax.{empty}
-use Rattle.grammar.specs.Grammar.{iriTerm}
 use Rattle.grammar.specs.Limits.{nothing}
 use Rattle.grammar.specs.Reading.{Asked, Refused}
 use Rattle.grammar.specs.Reading as reading
-use Rattle.question.specs.declared.question.Question.{Question}
 use Rattle.question.specs.declared.reader.Reader.{Reader}
 use Rattle.question.specs.declared.draft.Draft.{Draft}
-use Rattle.question.specs.Arena.{nameOf, termOf, Env, pathsOf, pathAt, patternsOf, patternAt}
+use Rattle.question.specs.Asking.{asked}
 use Rattle.question.specs.Views.{View, view, Ready, Stands}
 
--- what the numbers in a question's nodes stand for
-abbrev pub env : List ℕ → Question → Env
-env text q =
-    let terms = map (termOf text) (vec-items (q .terms)) in
-    let term = λ (i : ℕ). getD terms i (iriTerm []) in
-    record { term = term; name = λ i. getD (map (nameOf text) (vec-items (q .names))) i []; path = λ i. pathAt (pathsOf term (vec-items (q .paths))) i }
-
--- what a question asks whose parts are of this text, and whose whole pattern is at this index
-abbrev pub askedAt : List ℕ → ℕ → Question → Asked
-askedAt text root q = record {
-  pattern = patternAt (patternsOf (env text q) (vec-items (q .patterns))) root;
-  names = map (nameOf text) (vec-items (q .names));
-  terms = map (termOf text) (vec-items (q .terms));
-}
-
-abbrev pub asked : Question → Asked
-asked q = askedAt (vec-items (q .text)) (q .root) q
-
+-- the question that a draft holds
 abbrev pub held : Draft → Asked
 held d = asked (d .question)
-
--- the empty group
-abbrev pub nothingAsked : Asked
-nothingAsked = record { pattern = empty; names = []; terms = [] }
 
 -- the reader has all of a text before it
 pub record Fresh (text : List ℕ) (r : Reader) : Type 0 where

@@ -1,5 +1,8 @@
-pub mod Arena
-pub mod Views
-pub mod Outcomes
 pub mod Admission
 pub mod Answers
+pub mod Arena
+pub mod Asking
+pub mod Behind
+pub mod Outcomes
+pub mod Views
+pub mod Within

@@ -22,6 +22,7 @@ use Rattle.question.specs.declared.node.End.{End}
 use Rattle.question.specs.declared.node.PathNode.{PathNode}
 use Rattle.question.specs.declared.node.PatternNode.{PatternNode}
 use Rattle.question.specs.declared.node.PatternNode.the-variants.{Empty, And}
+use Rattle.question.specs.Behind.{endTerms, endNames}
 use Rattle.question.specs.Views.{View, Went, Kept, Counted, Idle, Failed, Stands, HeldPath, HeldPattern, HeldEnd}
 
 -- it was read, or the symbol failed
@@ -87,6 +88,8 @@ pub record ReadEnd (from to : View) (x : End) : Type 0 where
   pub went : Went (a is-end ∷ []) [] from to
   pub idle : Idle from to
   pub held : HeldEnd to x (means tree)
+  pub terms : endTerms x ≤ length (to .seen .terms)
+  pub names : endNames x ≤ length (to .seen .names)
 
 pub record ReadMembers (from to : View) : Type 0 where
   pub tree : Tree is-members

@@ -59,7 +59,10 @@ impl Reader {
         requires some { ⌜ now self .next .start < now self .next .end ⌝ }
         ensures { λ r. ⌜ Admission (termWord kind (part (now (text .entry)) (now (self .entry) .next .start + 1) (now (self .entry) .next .end - 1))) (now (text .entry)) (now (self .entry)) (now (self .exit)) r ⌝ }
     {
-        let span = Span { start: self.next.start + 1, end: self.next.end - 1 };
+        let span = Span {
+            start: self.next.start + 1,
+            end: self.next.end - 1,
+        };
         if span.of(text).len() > 128 {
             return Err(Reason::TooLong);
         }
@@ -72,7 +75,10 @@ impl Reader {
         requires ready { ⌜ Ready (now text) (now self) ⌝ }
         ensures { λ r. ⌜ Admission (name (part (now (text .entry)) (now (self .entry) .next .start + 1) (now (self .entry) .next .end))) (now (text .entry)) (now (self .entry)) (now (self .exit)) r ⌝ }
     {
-        let span = Span { start: self.next.start + 1, end: self.next.end };
+        let span = Span {
+            start: self.next.start + 1,
+            end: self.next.end,
+        };
         match self.find_name(text, span) {
             Some(number) => Ok(number),
             None => self.add_name(text, span),

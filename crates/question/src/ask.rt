@@ -2,7 +2,9 @@
 ghost use mathlib.Core.Path.{_≡_};
 ghost use lib.ListN.{length};
 ghost use Rattle.std.specs.Of.Vec.{vec-items};
-ghost use Rattle.question.specs.Answers.{Told, asked, termTold};
+ghost use Rattle.grammar.specs.Syntax.{nodes as counted};
+ghost use Rattle.question.specs.Answers.{Told, held, termTold};
+ghost use Rattle.question.specs.Asking.{asked};
 use crate::draft::Draft;
 use crate::node::PathNode;
 use crate::node::PatternNode;
@@ -15,15 +17,16 @@ impl Draft {
     {
         &self.question
     }
+
+    // How many nodes the question has.
+    pub fn nodes(&self) -> usize
+        ensures { λ r. ⌜ r ≡ counted (held (now (self .entry)) .pattern) ⌝ }
+    {
+        self.question.nodes
+    }
 }
 
 impl Question {
-    pub fn nodes(&self) -> usize
-        ensures { λ r. ⌜ r ≡ now (self .entry) .nodes ⌝ }
-    {
-        self.nodes
-    }
-
     // The index of the whole pattern.
     pub fn root(&self) -> usize
         ensures { λ r. ⌜ r ≡ now (self .entry) .root ⌝ }
@@ -41,7 +44,7 @@ impl Question {
     pub fn name(&self, number: usize) -> Option<&[u8]>
         ensures { λ r. ⌜ Told (λ x y. now x ≡ y) (asked (now (self .entry)) .names) number r ⌝ }
     {
-        if number < self.names.len() {
+        if number < self.variables() {
             Some(self.names[number].of(self.text.as_slice()))
         } else {
             None

@@ -1,4 +1,7 @@
 // The place that questions are read into.
+ghost use mathlib.Core.Path.{_≡_};
+ghost use Rattle.grammar.specs.Syntax.{nodes as counted};
+ghost use Rattle.question.specs.Asking.{asked};
 use crate::question::Question;
 use crate::reader::Reader;
 
@@ -7,4 +10,5 @@ use crate::reader::Reader;
 pub struct Draft {
     pub(crate) question: Question,
     pub(crate) reader: Reader,
+    ghost nodes: { question .nodes ≡ counted (asked question .pattern) },
 }

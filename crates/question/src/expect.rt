@@ -23,7 +23,10 @@ impl Reader {
     {
         let at = self.next.start;
         if !self.next.token.is(token) {
-            return Err(Fault { reason: Reason::NoQuestion, at });
+            return Err(Fault {
+                reason: Reason::NoQuestion,
+                at,
+            });
         }
         match self.admit(text) {
             Ok(number) => {

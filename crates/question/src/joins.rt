@@ -4,6 +4,7 @@ ghost use mathlib.Core.List.{List};
 ghost use Prim.Native.Nat.{ℕ};
 ghost use Rattle.question.specs.Views.{Same, view};
 ghost use Rattle.question.specs.Outcomes.{Emptied, Joined, beginsItem};
+ghost use Rattle.question.specs.Within.{LeftThere, PatternThere};
 use crate::node::PatternNode;
 use crate::reader::Reader;
 use tokens::Token;
@@ -36,6 +37,8 @@ impl Reader {
 
     // What opens a group stands alone; anything else is joined to all before it.
     pub(crate) fn join(&mut self, left: Option<usize>, right: usize) -> usize
+        requires left { ⌜ LeftThere (now self) left ⌝ }
+        requires right { ⌜ PatternThere (now self) right ⌝ }
         ensures same { λ _. ⌜ Same (now (self .entry)) (now (self .exit)) ⌝ }
         ensures joined { λ r. ⌜ ((text : List ℕ) → Joined left right (view text (now (self .entry))) (view text (now (self .exit))) r) ⌝ }
     {

@@ -22,7 +22,11 @@ pub enum PathNode {
 #[derive(Clone, Copy)]
 pub enum PatternNode {
     Empty,
-    Line { subject: End, path: usize, object: End },
+    Line {
+        subject: End,
+        path: usize,
+        object: End,
+    },
     And(usize, usize),
     Union(usize, usize),
     Opt(usize, usize),

@@ -8,6 +8,7 @@ ghost use Rattle.grammar.specs.Grammar.{means, is-base, is-members, is-negation
 ghost use Rattle.grammar.specs.Machine.{a};
 ghost use Rattle.question.specs.Views.{Ready, Same, view};
 ghost use Rattle.question.specs.Outcomes.{Outcome, PathRead, PlacedPath, ReadMembers, ReadSuffix};
+ghost use Rattle.question.specs.Within.{PathThere};
 use crate::node::PathNode;
 use crate::reader::Reader;
 use grammar::Fault;
@@ -65,6 +66,7 @@ impl Reader {
     // A star behind a base, if there is one.
     fn suffix(&mut self, text: &[u8], base: usize) -> Result<usize, Fault>
         requires ready { ⌜ Ready (now text) (now self) ⌝ }
+        requires there { ⌜ PathThere (now self) base ⌝ }
         ensures ready { λ r. ⌜ made r (λ _. Ready (now (text .entry)) (now (self .exit))) ⌝ }
         ensures outcome { λ r. ⌜ Outcome (a is-suffix) (view (now (text .entry)) (now (self .entry))) (λ i. ReadSuffix base (view (now (text .entry)) (now (self .entry))) (view (now (text .entry)) (now (self .exit))) i) r ⌝ }
     {

@@ -4,6 +4,7 @@ ghost use Rattle.grammar.specs.Grammar.{means, is-end, is-group, is-groups, is-
 ghost use Rattle.grammar.specs.Machine.{a};
 ghost use Rattle.question.specs.Views.{Ready, view};
 ghost use Rattle.question.specs.Outcomes.{Outcome, PatternRead, ReadEnd, ReadItem, ReadItems};
+ghost use Rattle.question.specs.Within.{LeftThere};
 use crate::node::End;
 use crate::node::PatternNode;
 use crate::reader::Reader;
@@ -37,6 +38,7 @@ impl Reader {
     // One item more of a group, joined to what stands to the left of it.
     fn item(&mut self, text: &[u8], left: Option<usize>) -> Result<usize, Fault>
         requires ready { ⌜ Ready (now text) (now self) ⌝ }
+        requires there { ⌜ LeftThere (now self) left ⌝ }
         ensures ready { λ r. ⌜ made r (λ _. Ready (now (text .entry)) (now (self .exit))) ⌝ }
         ensures outcome { λ r. ⌜ Outcome (a is-item) (view (now (text .entry)) (now (self .entry))) (λ i. ReadItem left (view (now (text .entry)) (now (self .entry))) (view (now (text .entry)) (now (self .exit))) i) r ⌝ }
     {
@@ -82,7 +84,11 @@ impl Reader {
         let path = self.path(text)?;
         let object = self.end(text)?;
         self.expect(text, Token::Dot)?;
-        Ok(self.add_pattern(PatternNode::Line { subject, path, object }))
+        Ok(self.add_pattern(PatternNode::Line {
+            subject,
+            path,
+            object,
+        }))
     }
 
     fn end(&mut self, text: &[u8]) -> Result<End, Fault>

@@ -3,7 +3,9 @@ ghost use mathlib.Core.Path.{_≡_};
 ghost use Prim.Native.Nat.{_≤_};
 ghost use lib.ListN.{length};
 ghost use Rattle.std.specs.Vec.{made};
-ghost use Rattle.question.specs.Answers.{Answer, Verdict, asked, askedAt, held, nothingAsked};
+ghost use Rattle.grammar.specs.Syntax.{nodes as counted};
+ghost use Rattle.question.specs.Answers.{Answer, Verdict, held};
+ghost use Rattle.question.specs.Asking.{asked, askedAt, nothingAsked};
 use crate::draft::Draft;
 use crate::question::Question;
 use crate::reader::Reader;
@@ -22,8 +24,20 @@ impl Draft {
     {
         let question = Question::reserve(heap)?;
         let built = Question::reserve(heap)?;
-        let next = Lexeme { token: Token::End, start: 0, end: 0 };
-        Ok(Draft { question, reader: Reader { next, depth: 0, full: false, built } })
+        let next = Lexeme {
+            token: Token::End,
+            start: 0,
+            end: 0,
+        };
+        Ok(Draft {
+            question,
+            reader: Reader {
+                next,
+                depth: 0,
+                full: false,
+                built,
+            },
+        })
     }
 
     // Reads a text in place of the question, or tells how it is refused and leaves the question.
@@ -46,7 +60,8 @@ impl Draft {
 impl Reader {
     fn question(&mut self, text: &[u8]) -> Result<(), Refusal>
         requires { ⌜ length (now text) ≤ 2048 ⌝ }
-        ensures { λ r. ⌜ Verdict (now (text .entry)) r (asked (now (self .exit) .built)) ⌝ }
+        ensures verdict { λ r. ⌜ Verdict (now (text .entry)) r (asked (now (self .exit) .built)) ⌝ }
+        ensures nodes { λ r. ⌜ made r (λ _. now (self .exit) .built .nodes ≡ counted (asked (now (self .exit) .built) .pattern)) ⌝ }
     {
         self.start(text);
         let root = match self.group(text) {
@@ -54,7 +69,10 @@ impl Reader {
             Err(fault) => return Err(Refusal::At(fault)),
         };
         if !self.next.token.is(Token::End) {
-            return Err(Refusal::At(Fault { reason: Reason::NoQuestion, at: self.next.start }));
+            return Err(Refusal::At(Fault {
+                reason: Reason::NoQuestion,
+                at: self.next.start,
+            }));
         }
         if self.full {
             return Err(Refusal::TooManyNodes);
@@ -66,7 +84,8 @@ impl Reader {
     // A question keeps the text that its parts are of.
     fn keep(&mut self, text: &[u8], root: usize)
         requires { ⌜ length (now text) ≤ 2048 ⌝ }
-        ensures { λ _. ⌜ asked (now (self .exit) .built) ≡ askedAt (now (text .entry)) root (now (self .entry) .built) ⌝ }
+        ensures nodes { λ _. ⌜ now (self .exit) .built .nodes ≡ now (self .entry) .built .nodes ⌝ }
+        ensures asked { λ _. ⌜ asked (now (self .exit) .built) ≡ askedAt (now (text .entry)) root (now (self .entry) .built) ⌝ }
     {
         self.built.root = root;
         self.built.text.clear();

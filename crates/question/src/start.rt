@@ -10,10 +10,10 @@ impl Reader {
         requires { ⌜ length (now text) ≤ 2048 ⌝ }
         ensures { λ _. ⌜ Fresh (now (text .entry)) (now (self .exit)) ⌝ }
     {
+        self.built.patterns.clear();
+        self.built.paths.clear();
         self.built.terms.clear();
         self.built.names.clear();
-        self.built.paths.clear();
-        self.built.patterns.clear();
         self.built.nodes = 0;
         self.depth = 0;
         self.full = false;

@@ -2,6 +2,8 @@ use mathlib.Core.Path.{sym, _∙_}
 use native.Mathlib.Omega.{arith}
 use Rattle.std.proofs.shelf.Results.{err-from-errBy}
 use Rattle.question.specs.Views.{view}
+use Rattle.grammar.specs.Grammar.{means}
+use Rattle.question.proofs.Fitting.{path-there, link-fits, inverse-fits, alternative-fits, sequence-fits, past, past-free}
 use Rattle.question.proofs.Taking.{points, elsewhere, ready-same}
 use Rattle.question.proofs.Holding.{path-stays}
 use Rattle.question.proofs.Placing.{went-path, alternative-placed, sequence-placed}
@@ -111,10 +113,12 @@ path-loop-self-again t c =
     let text = c .args .text .now in
     let sign = (c .in-Continue-expect .ensures tt .outcome .is) in
     let right = (c .in-Continue-right .ensures tt .outcome .is) in
-    let node = c .add-path-left .ensures .placed text in
-    (ready-same (c .add-path-left .ensures .same) (c .in-Continue-right .ensures tt .ready), omega (arith, c .loop-self .inv .1, sign .falls, right .went .kept .forward, node .placed .start),
+    let node = c .add-path-left .ensures .placed text in (
+      ready-same (c .add-path-left .ensures .same) (c .in-Continue-right .ensures tt .ready),
+      omega (arith, c .loop-self .inv .1, sign .falls, right .went .kept .forward, node .placed .start),
       λ p s. another alternating (c .loop-self .inv .2 p s) (points (c .args .text .now) (c .loop-self .self .next) (c .in-Bar .is)) sign right (node .placed) (went-path node)
-        (λ f u v l r. let g = node .placed .free f in alternative-placed node (path-stays (onward-then (took-onward sign (right .went .kept .free g)) (read-onward (right .went) g)) l) r f))
+          (λ f u v l r. let g = node .placed .free f in alternative-placed node (path-stays (onward-then (took-onward sign (right .went .kept .free g)) (read-onward (right .went) g)) l) r f),
+    )
 
 pub path-returns : need.path-returns
 path-returns t c = record {
@@ -144,10 +148,12 @@ sequence-loop-self-again t c =
     let text = c .args .text .now in
     let sign = (c .in-Continue-expect .ensures tt .outcome .is) in
     let right = (c .in-Continue-right .ensures tt .outcome .is) in
-    let node = c .add-path-left .ensures .placed text in
-    (ready-same (c .add-path-left .ensures .same) (c .in-Continue-right .ensures tt .ready), omega (arith, c .loop-self .inv .1, sign .falls, right .went .kept .forward, node .placed .start),
+    let node = c .add-path-left .ensures .placed text in (
+      ready-same (c .add-path-left .ensures .same) (c .in-Continue-right .ensures tt .ready),
+      omega (arith, c .loop-self .inv .1, sign .falls, right .went .kept .forward, node .placed .start),
       λ p s. another stepping (c .loop-self .inv .2 p s) (points (c .args .text .now) (c .loop-self .self .next) (c .in-Slash .is)) sign right (node .placed) (went-path node)
-        (λ f u v l r. let g = node .placed .free f in sequence-placed node (path-stays (onward-then (took-onward sign (right .went .kept .free g)) (read-onward (right .went) g)) l) r f))
+          (λ f u v l r. let g = node .placed .free f in sequence-placed node (path-stays (onward-then (took-onward sign (right .went .kept .free g)) (read-onward (right .went) g)) l) r f),
+    )
 
 pub sequence-returns : need.sequence-returns
 sequence-returns t c = record {
@@ -155,3 +161,33 @@ sequence-returns t c = record {
   outcome = record { is = ended stepping (c .loop-self .inv .2 (view (c .args .text .now) (c .args .self .now)) (begun stepping (c .in-Continue-left .ensures tt .outcome .is))) (elsewhere (c .args .text .now) (c .loop-self .self .next) (c .in-rest .not-Slash)) };
 }
 
+-- ---- what the nodes name is there
+
+pub base-add-path-requires : need.base-add-path-requires
+base-add-path-requires t c κs = record { some = omega arith; fits = link-fits (c .args .text .now) (c .in-Continue-term .ensures tt .outcome .is) }
+
+pub step-suffix-requires : need.step-suffix-requires
+step-suffix-requires t c κs = record { ready = c .in-Continue-base .ensures tt .ready; there = λ f. path-there (c .args .text .now) (c .base .last .self) ((c .in-Continue-base .ensures tt .outcome .is) .held f) }
+
+pub step-suffix-requires-in-rest : need.step-suffix-requires-in-rest
+step-suffix-requires-in-rest t c κs = record { ready = c .in-Continue-base-2 .ensures tt .ready; there = λ f. path-there (c .args .text .now) (c .base-in-rest .last .self) ((c .in-Continue-base-2 .ensures tt .outcome .is) .held f) }
+
+pub step-add-path-requires : need.step-add-path-requires
+step-add-path-requires t c κs =
+    let b = (c .in-Continue-base .ensures tt .outcome .is) in
+    let s = (c .in-Continue-inner .ensures tt .outcome .is) in
+    record { some = omega arith; fits = inverse-fits (c .args .text .now) (λ f. s .held f (means (b .tree)) (b .held (s .went .kept .free f))) }
+
+pub path-add-path-left-requires : need.path-add-path-left-requires
+path-add-path-left-requires t c κs =
+    let sofar = (c .loop-self .inv .2 (view (c .args .text .now) (c .args .self .now)) (begun alternating (c .in-Continue-left .ensures tt .outcome .is))) in
+    let sign = (c .in-Continue-expect .ensures tt .outcome .is) in
+    let right = (c .in-Continue-right .ensures tt .outcome .is) in
+    record { some = omega arith; fits = alternative-fits (c .args .text .now) (λ f. path-stays (past sign (right .went) f) (sofar .held (past-free sign (right .went) f))) (right .held) }
+
+pub sequence-add-path-left-requires : need.sequence-add-path-left-requires
+sequence-add-path-left-requires t c κs =
+    let sofar = (c .loop-self .inv .2 (view (c .args .text .now) (c .args .self .now)) (begun stepping (c .in-Continue-left .ensures tt .outcome .is))) in
+    let sign = (c .in-Continue-expect .ensures tt .outcome .is) in
+    let right = (c .in-Continue-right .ensures tt .outcome .is) in
+    record { some = omega arith; fits = sequence-fits (c .args .text .now) (λ f. path-stays (past sign (right .went) f) (sofar .held (past-free sign (right .went) f))) (right .held) }

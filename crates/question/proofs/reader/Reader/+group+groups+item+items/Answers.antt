@@ -4,6 +4,7 @@ use Rattle.std.proofs.shelf.Results.{err-from-errBy}
 use Rattle.tokens.specs.Lexed.{ahead}
 use Rattle.question.specs.Views.{view}
 use Rattle.question.specs.Outcomes.{beginsItem}
+use Rattle.question.proofs.Fitting.{pattern-there, left-there, union-fits, opt-fits, past, past-free, pattern-still, left-still, emptied-there}
 use Rattle.question.proofs.Taking.{sort-said, points, elsewhere, ready-same}
 use Rattle.question.proofs.Lengths.{fewer}
 use Rattle.question.proofs.Holding.{pattern-stays, onward-then}
@@ -120,13 +121,46 @@ groups-loop-self-again t c =
     let text = c .args .text .now in
     let sign = (c .in-Continue-expect .ensures tt .outcome .is) in
     let right = (c .in-Continue-right .ensures tt .outcome .is) in
-    let node = c .add-pattern-left .ensures .placed text in
-    (ready-same (c .add-pattern-left .ensures .same) (c .in-Continue-right .ensures tt .ready), omega (arith, c .loop-self .inv .1, sign .falls, right .went .kept .forward, node .placed .start),
+    let node = c .add-pattern-left .ensures .placed text in (
+      ready-same (c .add-pattern-left .ensures .same) (c .in-Continue-right .ensures tt .ready),
+      omega (arith, c .loop-self .inv .1, sign .falls, right .went .kept .forward, node .placed .start),
       λ p s. another uniting (c .loop-self .inv .2 p s) (points (c .args .text .now) (c .loop-self .self .next) (c .in-Union .is)) sign right (node .placed) (went-pattern node)
-        (λ f u v l r. let g = node .placed .free f in union-placed node (pattern-stays (onward-then (took-onward sign (right .went .kept .free g)) (read-onward (right .went) g)) l) r f))
+          (λ f u v l r. let g = node .placed .free f in union-placed node (pattern-stays (onward-then (took-onward sign (right .went .kept .free g)) (read-onward (right .went) g)) l) r f),
+    )
 
 pub groups-returns : need.groups-returns
 groups-returns t c = record {
   ready = c .loop-self .inv .0;
   outcome = record { is = ended uniting (c .loop-self .inv .2 (view (c .args .text .now) (c .args .self .now)) (begun uniting (c .in-Continue-left .ensures tt .outcome .is))) (elsewhere (c .args .text .now) (c .loop-self .self .next) (c .in-rest .not-Union)) };
 }
+
+-- ---- what the nodes name is there
+
+pub groups-add-pattern-left-requires : need.groups-add-pattern-left-requires
+groups-add-pattern-left-requires t c κs =
+    let sofar = (c .loop-self .inv .2 (view (c .args .text .now) (c .args .self .now)) (begun uniting (c .in-Continue-left .ensures tt .outcome .is))) in
+    let sign = (c .in-Continue-expect .ensures tt .outcome .is) in
+    let right = (c .in-Continue-right .ensures tt .outcome .is) in
+    union-fits (c .args .text .now) (λ f. pattern-stays (past sign (right .went) f) (sofar .held (past-free sign (right .went) f))) (right .held)
+
+pub item-add-pattern-requires : need.item-add-pattern-requires
+item-add-pattern-requires t c κs =
+    let text = c .args .text .now in
+    let right = (c .in-Continue-right .ensures tt .outcome .is) in
+    let before = left-still text (c .args .self .now) (c .expect .last .self) (c .args .left) (c .pre .there) ((c .in-Continue-expect .ensures tt .outcome .is) .went .kept) in
+    opt-fits text (pattern-still text (c .or-empty-left .last .self) (c .group .last .self) (emptied-there text (c .expect .last .self) (c .or-empty-left .last .self) (c .args .left) (c .or-empty-left .result) before (c .or-empty-left .ensures .emptied text)) (right .went .kept)) (right .held)
+
+pub item-join-requires : need.item-join-requires
+item-join-requires t c κs =
+    let right = (c .in-Continue-right-2 .ensures tt .outcome .is) in
+    record { left = left-still (c .args .text .now) (c .args .self .now) (c .groups .last .self) (c .args .left) (c .pre .there) (right .went .kept); right = λ f. pattern-there (c .args .text .now) (c .groups .last .self) (right .held f) }
+
+pub item-join-requires-in-rest : need.item-join-requires-in-rest
+item-join-requires-in-rest t c κs =
+    let right = (c .in-Continue-right-3 .ensures tt .outcome .is) in
+    record { left = left-still (c .args .text .now) (c .args .self .now) (c .line .last .self) (c .args .left) (c .pre .there) (right .went .kept); right = λ f. pattern-there (c .args .text .now) (c .line .last .self) (right .held f) }
+
+pub items-item-requires : need.items-item-requires
+items-item-requires t c κs =
+    let sofar = c .loop-self .inv .1 in
+    (omega (arith, sofar .went .kept .forward), (c .loop-self .inv .0, left-there (c .args .text .now) (c .loop-self .self) (c .loop-self .left) (sofar .value) (sofar .held)))

@@ -1,4 +1,5 @@
 use Rattle.std.proofs.shelf.Results.{err-from-errBy}
+use Rattle.question.proofs.Fitting.{line-fits}
 use Rattle.question.proofs.Taking.{ready-same}
 use Rattle.question.proofs.PatternParts.{line-first, line-path, line-second, line-dot, line-read}
 use Rattle.question.proofs.reader.Reader.line.Needs as need
@@ -28,3 +29,6 @@ returns c = record {
   ready = ready-same (c .add-pattern .ensures .same) (c .in-Continue-expect .ensures tt .ready);
   outcome = record { is = line-read (c .in-Continue-subject .ensures tt .outcome .is) (c .in-Continue-path .ensures tt .outcome .is) (c .in-Continue-object .ensures tt .outcome .is) (c .in-Continue-expect .ensures tt .outcome .is) (c .add-pattern .ensures .placed (c .args .text .now)) };
 }
+
+pub add-pattern-requires : need.add-pattern-requires
+add-pattern-requires c κs = line-fits (c .args .text .now) (c .in-Continue-subject .ensures tt .outcome .is) (c .in-Continue-path .ensures tt .outcome .is) (c .in-Continue-object .ensures tt .outcome .is) (c .in-Continue-expect .ensures tt .outcome .is)

@@ -27,8 +27,15 @@ returns-in-Break-members c =
 
 pub add-negated-requires : need.add-negated-requires
 add-negated-requires c κs =
-    omega (arith, c .len-first .ensures, terms-length (c .args .text .now) (c .args .self .now), terms-length (c .args .text .now) (c .members .last .self),
-      passed-length (c .in-Continue-expect .ensures tt .outcome .is .went .passes), passed-length (c .in-Continue-expect-2 .ensures tt .outcome .is .went .passes), passed-length (c .in-Continue-members .ensures tt .outcome .is .went .passes))
+    omega (
+      arith,
+      c .len-first .ensures,
+      terms-length (c .args .text .now) (c .args .self .now),
+      terms-length (c .args .text .now) (c .members .last .self),
+      passed-length (c .in-Continue-expect .ensures tt .outcome .is .went .passes),
+      passed-length (c .in-Continue-expect-2 .ensures tt .outcome .is .went .passes),
+      passed-length (c .in-Continue-members .ensures tt .outcome .is .went .passes),
+    )
 
 pub returns-in-Continue-members : need.returns-in-Continue-members
 returns-in-Continue-members c =
@@ -36,9 +43,11 @@ returns-in-Continue-members c =
     let e = points text (c .args .self .now .next) (c .in-OpenParen .is) in
     record {
       ready = ready-same (c .add-negated .ensures .same) (c .in-Continue-members .ensures tt .ready);
-      outcome = record { is =
-        several-read e (c .in-Continue-expect .ensures tt .outcome .is) (c .in-Continue-expect-2 .ensures tt .outcome .is) (c .in-Continue-members .ensures tt .outcome .is)
-        (c .len-first .ensures ∙ terms-length text (c .args .self .now)) (ap (λ n. n - c .len-first .result) (terms-length text (c .members .last .self))) (c .add-negated .ensures .placed text) };
+      outcome = record {
+        is =
+            several-read e (c .in-Continue-expect .ensures tt .outcome .is) (c .in-Continue-expect-2 .ensures tt .outcome .is) (c .in-Continue-members .ensures tt .outcome .is)
+            (c .len-first .ensures ∙ terms-length text (c .args .self .now)) (ap (λ n. n - c .len-first .result) (terms-length text (c .members .last .self))) (c .add-negated .ensures .placed text);
+      };
     }
 
 pub returns-in-Break-expect-3 : need.returns-in-Break-expect-3
@@ -55,7 +64,9 @@ returns-in-Continue-expect-3 c =
     let text = c .args .text .now in
     record {
       ready = ready-same (c .add-negated-in-rest .ensures .same) (c .in-Continue-expect-3 .ensures tt .ready);
-      outcome = record { is =
-        one-read (elsewhere text (c .args .self .now .next) (c .in-rest .not-OpenParen)) (c .in-Continue-expect-3 .ensures tt .outcome .is)
-        (c .len-first .ensures ∙ terms-length text (c .args .self .now)) (ap (λ n. n - c .len-first .result) (terms-length text (c .expect-in-rest .last .self))) (c .add-negated-in-rest .ensures .placed text) };
+      outcome = record {
+        is =
+            one-read (elsewhere text (c .args .self .now .next) (c .in-rest .not-OpenParen)) (c .in-Continue-expect-3 .ensures tt .outcome .is)
+            (c .len-first .ensures ∙ terms-length text (c .args .self .now)) (ap (λ n. n - c .len-first .result) (terms-length text (c .expect-in-rest .last .self))) (c .add-negated-in-rest .ensures .placed text);
+      };
     }
