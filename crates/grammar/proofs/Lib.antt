@@ -1,3 +1,4 @@
+pub mod Bounding
 pub mod Moves
 pub mod Stacks
 pub mod Spelled

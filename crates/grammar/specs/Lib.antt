@@ -1,3 +1,4 @@
+pub mod Bounded
 pub mod Syntax
 pub mod Grammar
 pub mod Limits

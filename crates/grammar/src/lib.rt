@@ -3,6 +3,7 @@ mod laws;
 mod refusal;
 mod told;
 
+pub use laws::bounds_are_lawful;
 pub use laws::reading_is_exact;
 pub use refusal::Fault;
 pub use refusal::Reason;

@@ -1,0 +1,5 @@
+use Rattle.grammar.proofs.Bounding.{bounded-by-more, exchange-keeps-bounds, regrouping-can-unbind}
+use Rattle.grammar.proofs.laws.bounds_are_lawful.Needs as need
+
+pub returns : need.returns
+returns c = record { more = bounded-by-more; exchange = exchange-keeps-bounds; regroup = regrouping-can-unbind }
