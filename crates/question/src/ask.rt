@@ -27,6 +27,13 @@ impl Draft {
 }
 
 impl Question {
+    // How many nodes were counted. No index of a node is as large.
+    pub fn nodes(&self) -> usize
+        ensures { λ r. ⌜ r ≡ now (self .entry) .nodes ⌝ }
+    {
+        self.nodes
+    }
+
     // The index of the whole pattern.
     pub fn root(&self) -> usize
         ensures { λ r. ⌜ r ≡ now (self .entry) .root ⌝ }
