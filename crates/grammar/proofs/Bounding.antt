@@ -70,7 +70,7 @@ and-comm false true = refl
 and-comm false false = refl
 
 -- by a set with the same variables
-by-same : (p : Asks) (X Y : Vars) → ((v : ℕ) → X v ≡ Y v) → Bounded p X → Bounded p Y
+pub by-same : (p : Asks) (X Y : Vars) → ((v : ℕ) → X v ≡ Y v) → Bounded p X → Bounded p Y
 by-same p X Y h e = bounded-by-more p X Y (λ v f. sym (h v) ∙ f) e
 
 both-same : (X Y Z : Vars) → ((v : ℕ) → Y v ≡ Z v) → (v : ℕ) → both X Y v ≡ both X Z v

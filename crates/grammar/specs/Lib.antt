@@ -1,6 +1,9 @@
 pub mod Bounded
-pub mod Syntax
 pub mod Grammar
+pub mod Judged
 pub mod Limits
-pub mod Reading
 pub mod Machine
+pub mod Masks
+pub mod Reading
+pub mod Syntax
+pub mod Walkable
