@@ -5,7 +5,7 @@ use Rattle.terms.proofs.Runs.{every_more, every_stops, every_past, iri_told}
 use Rattle.terms.proofs.lawful.is_iri.Goals as goal
 
 pub loop-b-preserved : goal.loop-b-preserved
-loop-b-preserved c = every_more iri_byte c.args.bytes.now c.loop-b.b-index (omega arith) (sym c.if-not-is-iri-byte.ensures) ∙ c.loop-b.invariant
+loop-b-preserved c = every_more iri_byte c.args.bytes.now c.loop-b.b-index (omega arith) (sym c.if-not-is_iri_byte.ensures) ∙ c.loop-b.invariant
 
 pub returns-then-not-is-iri-byte : goal.returns-then-not-is-iri-byte
 returns-then-not-is-iri-byte c =
@@ -14,4 +14,4 @@ returns-then-not-is-iri-byte c =
 
 pub returns : goal.returns
 returns c =
-    sym (iri_told c.args.bytes.now (omega (arith, eqb-false _ _ (sym c.if-is-empty.ensures))) (omega arith) (sym c.loop-b.invariant ∙ every_past iri_byte c.args.bytes.now c.loop-b.b-index (omega arith)))
+    sym (iri_told c.args.bytes.now (omega (arith, eqb-false _ _ (sym c.if-is_empty.ensures))) (omega arith) (sym c.loop-b.invariant ∙ every_past iri_byte c.args.bytes.now c.loop-b.b-index (omega arith)))
