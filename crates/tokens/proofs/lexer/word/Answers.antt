@@ -1,8 +1,8 @@
 use Rattle.tokens.proofs.Pieced.{word_fits, word_read}
 use Rattle.tokens.proofs.lexer.word.Goals as goal
 
-pub slice-bounds-keyword-end : goal.slice-bounds-keyword-end
-slice-bounds-keyword-end c = word_fits c.args.text.now c.args.start c.run-end-end.result c.run-end-end.ensures c.requires.0
+pub slice_bounds-keyword-end : goal.slice_bounds-keyword-end
+slice_bounds-keyword-end c = word_fits c.args.text.now c.args.start c.run_end-end.result c.run_end-end.ensures c.requires.0
 
 pub returns : goal.returns
-returns c = word_read c.args.text.now c.args.start c.run-end-end.result c.keyword.result c.run-end-end.ensures c.requires.0 c.requires.1 c.keyword.ensures
+returns c = word_read c.args.text.now c.args.start c.run_end-end.result c.keyword.result c.run_end-end.ensures c.requires.0 c.requires.1 c.keyword.ensures
