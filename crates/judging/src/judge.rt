@@ -2,7 +2,7 @@
 ghost use Rattle.std.specs.Prelude.{◌≡◌, ℕ, List, IfOk};
 ghost use Rattle.question.specs.Answers.{held};
 ghost use Rattle.question.specs.Asking.{nothing_asked};
-ghost use Rattle.grammar.specs.Walkable.{walkable as canWalk};
+ghost use Rattle.grammar.specs.Walkable.{walkable as can_walk};
 ghost use Rattle.judging.specs.Judging.{Answer, accepted};
 ghost use Rattle.judging.specs.Masked.{Judges, asks_by, path_by};
 
@@ -53,7 +53,7 @@ impl Judged {
 
     // Whether the path at an index can be walked, by which of its ends are fixed. The walk goes from the left where it can.
     pub fn walkable(&self, index: usize, left: bool, right: bool) -> bool
-        ensures { (numbers : List ℕ) → result ≡ canWalk (path_by numbers self.now.question index) left right }
+        ensures { (numbers : List ℕ) → result ≡ can_walk (path_by numbers self.now.question index) left right }
     {
         walkable(&self.question, index, left, right)
     }

@@ -1,14 +1,14 @@
 // Whether a path can be walked, by which of its ends are fixed. A node's parts stand before it, so the index falls.
 ghost use Rattle.std.specs.Prelude.{◌≡◌};
 ghost use Rattle.grammar.specs.Syntax.{star, sequence};
-ghost use Rattle.grammar.specs.Walkable.{walkable as canWalk};
+ghost use Rattle.grammar.specs.Walkable.{walkable as can_walk};
 ghost use Rattle.question.specs.Parts.{path_is};
 
 use question::{PathNode, Question};
 
 #[cycle(walkable_walkable_again_walkable_in_turn)]
 pub(crate) fn walkable(q: &Question, index: usize, left: bool, right: bool) -> bool
-    ensures { result ≡ canWalk (path_is q.now index) left right }
+    ensures { result ≡ can_walk (path_is q.now index) left right }
 {
     let Some(node) = q.path(index) else {
         return left;
@@ -28,7 +28,7 @@ pub(crate) fn walkable(q: &Question, index: usize, left: bool, right: bool) -> b
 // From the left end, if it is fixed and every step can be walked so; else from the right end.
 #[cycle(walkable_walkable_again_walkable_in_turn)]
 fn walkable_again(q: &Question, part: usize, left: bool, right: bool) -> bool
-    ensures { result ≡ canWalk (star (path_is q.now part)) left right }
+    ensures { result ≡ can_walk (star (path_is q.now part)) left right }
 {
     if left && walkable(q, part, true, false) {
         return true;
@@ -39,7 +39,7 @@ fn walkable_again(q: &Question, part: usize, left: bool, right: bool) -> bool
 // From the left where the first part can be walked so: then the second part decides.
 #[cycle(walkable_walkable_again_walkable_in_turn)]
 fn walkable_in_turn(q: &Question, first: usize, second: usize, left: bool, right: bool) -> bool
-    ensures { result ≡ canWalk (sequence (path_is q.now first) (path_is q.now second)) left right }
+    ensures { result ≡ can_walk (sequence (path_is q.now first) (path_is q.now second)) left right }
 {
     if walkable(q, first, left, false) {
         walkable(q, second, true, right)

@@ -1,6 +1,6 @@
 // What a line of a page file says.
 ghost use Rattle.std.specs.Prelude.{◌≡◌, Some, None, MatchResult};
-ghost use Rattle.lines.specs.Readings.{opening as opened, says, statement as statedBy, unreadable};
+ghost use Rattle.lines.specs.Readings.{opening as opened, says, statement as stated_by, unreadable};
 ghost use Rattle.lines.specs.Steps.{said_of, triple_of};
 
 use crate::cursor::Line;
@@ -38,7 +38,7 @@ pub fn opening<'a>(line: Line<'a>) -> Result<&'a [u8], BadLine>
 
 // The triple that a line `<s> <p> o .` states.
 pub fn statement<'a>(line: Line<'a>) -> Result<Stated<'a>, BadLine>
-    ensures { MatchResult result (λ s. statedBy line.entry.bytes.now ≡ Some (triple_of s)) (λ e. (statedBy line.entry.bytes.now ≡ None) × (e.line ≡ line.entry.number)) }
+    ensures { MatchResult result (λ s. stated_by line.entry.bytes.now ≡ Some (triple_of s)) (λ e. (stated_by line.entry.bytes.now ≡ None) × (e.line ≡ line.entry.number)) }
 {
     let reader = Reader {
         rest: line.bytes,

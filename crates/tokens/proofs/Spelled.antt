@@ -1,7 +1,7 @@
 -- The piece at the front of some bytes is the word that is spelled there.
 use Rattle.std.proofs.Common.{◌≡◌, ℕ, suc, ◌+◌, ◌-◌, ◌<◌, ◌≤◌, Bool, true, false, cond, not, ◌&&◌, eqb, ◌⊎◌, List, [], ◌∷◌, ◌++◌, length, get_or, take, drop, codes, sym, refl, ap, ◌∙◌, subst, ap₂, inl, inr, add-one, arith}
 use Rattle.std.proofs.lemmas.List.{append_assoc, length_push, take_more, drop_at}
-use Rattle.std.proofs.lemmas.Bool.{cond-true, cond-false, cond_both, and_from, and_parts, not_true, not_from_false, eqb-true, eq-eqb, true≢false}
+use Rattle.std.proofs.lemmas.Bool.{cond-true, cond-false, cond_both, and_from, and_parts, not-true, not_from_false, eqb-true, eq-eqb, true≢false}
 use Rattle.terms.specs.Bytes.{blank_byte, iri_byte, literal_byte, word_byte}
 use Rattle.tokens.specs.Words.{Word, iri, literal, name, open-brace, close-brace, open-paren, close-paren, dot, bar, slash, caret, star, bang, optional, union, wrong, end}
 use Rattle.tokens.specs.Lexed.{Piece, piece, stray, front, leads, is_nil, same_bytes, final, iri_piece, literal_piece, name_piece, keyword, word_piece, signs, lexeme}
@@ -171,7 +171,7 @@ read_iri b bs is = cond_both _ _ _ (Read b bs) closed (λ e. inl refl)
     closed e =
         let two = and_parts _ _ e in
         by_size b bs (iri x) (length x + 1) (length x + 2) (omega arith) (omega (arith, leads_within 62 bs (length x) (sym two.1)))
-        (ap₂ (λ c y. c ∷ y) is (take_marked iri_byte 62 bs two.1), nil_filled x (not_true _ two.0), front_each iri_byte bs)
+        (ap₂ (λ c y. c ∷ y) is (take_marked iri_byte 62 bs two.1), nil_filled x (not-true _ two.0), front_each iri_byte bs)
 
 read_literal : (b : ℕ) (bs : List ℕ) → b ≡ 34 → Read b bs (literal_piece bs)
 read_literal b bs is = cond_both _ _ _ (Read b bs) closed (λ e. inl refl)

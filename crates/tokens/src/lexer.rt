@@ -2,7 +2,7 @@
 ghost use Rattle.std.specs.Prelude.{◌≡◌, ◌+◌, ◌<◌, true, length, drop, slice_index};
 ghost use Rattle.terms.specs.Bytes.{word_byte};
 ghost use Rattle.tokens.specs.Words.{sort};
-ghost use Rattle.tokens.specs.Lexed.{First, leads, iri_piece, literal_piece, name_piece, word_piece, lexeme, signs, keyword as keywordOf};
+ghost use Rattle.tokens.specs.Lexed.{First, leads, iri_piece, literal_piece, name_piece, word_piece, lexeme, signs, keyword as keyword_of};
 ghost use Rattle.tokens.specs.Pieces.{Reads};
 
 use crate::runs::{Class, run_end};
@@ -80,7 +80,7 @@ fn variable(text: &[u8], start: usize) -> Lexeme
 }
 
 fn keyword(word: &[u8]) -> Token
-    ensures { result ≡ sort (keywordOf word.now) }
+    ensures { result ≡ sort (keyword_of word.now) }
 {
     match word {
         b"OPTIONAL" => Token::Optional,

@@ -5,7 +5,7 @@ use Rattle.tokens.proofs.lexer.iri.Goals as goal
 use Rattle.tokens.proofs.lexer.iri.Goals.{else-end-start-via-then-end-start+else-stands, else-end-start-via-else-end-start}
 
 pub overflow_add-result : goal.overflow_add-result
-overflow_add-result c = omega (arith, c.well-formed.0, leads_within 62 c.args.text.now c.run_end-end.result c.if-stands.ensures)
+overflow_add-result c = omega (arith, c.well_formed.0, leads_within 62 c.args.text.now c.run_end-end.result c.if-stands.ensures)
 
 pub returns-then-stands : goal.returns-then-stands
 returns-then-stands c = iri_read c.args.text.now c.args.start c.run_end-end.result c.run_end-end.ensures (omega arith) c.if-stands.ensures

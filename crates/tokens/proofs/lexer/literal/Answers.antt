@@ -4,7 +4,7 @@ use Rattle.tokens.proofs.Pieced.{literal_read, literal_open}
 use Rattle.tokens.proofs.lexer.literal.Goals as goal
 
 pub overflow_add-result : goal.overflow_add-result
-overflow_add-result c = omega (arith, c.well-formed.0, leads_within 34 c.args.text.now c.run_end-end.result c.if-stands.ensures)
+overflow_add-result c = omega (arith, c.well_formed.0, leads_within 34 c.args.text.now c.run_end-end.result c.if-stands.ensures)
 
 pub returns-then-stands : goal.returns-then-stands
 returns-then-stands c = literal_read c.args.text.now c.args.start c.run_end-end.result c.run_end-end.ensures c.if-stands.ensures
