@@ -10,23 +10,23 @@ clash e = let z : ◌≡◌ {A = ℕ} 0 1 = cc in omega arith
 
 -- ---- one bit
 
-bit_or : (x y : ℕ) → x < 2 → y < 2 → eqb (max x y) 1 ≡ eqb x 1 || eqb y 1
-bit_or zero zero h k = refl
-bit_or zero (suc zero) h k = refl
-bit_or zero (suc (suc y)) h k = absurd (omega arith)
-bit_or (suc zero) zero h k = refl
-bit_or (suc zero) (suc zero) h k = refl
-bit_or (suc zero) (suc (suc y)) h k = absurd (omega arith)
-bit_or (suc (suc x)) y h k = absurd (omega arith)
+bits_or : (x y : ℕ) → x < 2 → y < 2 → eqb (max x y) 1 ≡ eqb x 1 || eqb y 1
+bits_or zero zero h k = refl
+bits_or zero (suc zero) h k = refl
+bits_or zero (suc (suc y)) h k = absurd (omega arith)
+bits_or (suc zero) zero h k = refl
+bits_or (suc zero) (suc zero) h k = refl
+bits_or (suc zero) (suc (suc y)) h k = absurd (omega arith)
+bits_or (suc (suc x)) y h k = absurd (omega arith)
 
-bit_and : (x y : ℕ) → x < 2 → y < 2 → eqb (min x y) 1 ≡ eqb x 1 && eqb y 1
-bit_and zero zero h k = refl
-bit_and zero (suc zero) h k = refl
-bit_and zero (suc (suc y)) h k = absurd (omega arith)
-bit_and (suc zero) zero h k = refl
-bit_and (suc zero) (suc zero) h k = refl
-bit_and (suc zero) (suc (suc y)) h k = absurd (omega arith)
-bit_and (suc (suc x)) y h k = absurd (omega arith)
+bits_and : (x y : ℕ) → x < 2 → y < 2 → eqb (min x y) 1 ≡ eqb x 1 && eqb y 1
+bits_and zero zero h k = refl
+bits_and zero (suc zero) h k = refl
+bits_and zero (suc (suc y)) h k = absurd (omega arith)
+bits_and (suc zero) zero h k = refl
+bits_and (suc zero) (suc zero) h k = refl
+bits_and (suc zero) (suc (suc y)) h k = absurd (omega arith)
+bits_and (suc (suc x)) y h k = absurd (omega arith)
 
 last_or : (a b : ℕ) → bit_or a b % 2 ≡ max (a % 2) (b % 2)
 last_or a b = omega (arith, or_step a b)
@@ -37,12 +37,12 @@ last_and a b = omega (arith, and_step a b)
 pub member_or : (a b v : ℕ) → member (bit_or a b) v ≡ both (member a) (member b) v
 member_or a b v =
     ap (λ n. eqb (n % 2) 1) (or_shr a b v) ∙ ap (λ n. eqb n 1) (last_or (a / 2 ^ v) (b / 2 ^ v))
-    ∙ bit_or (a / 2 ^ v % 2) (b / 2 ^ v % 2) (omega arith) (omega arith)
+    ∙ bits_or (a / 2 ^ v % 2) (b / 2 ^ v % 2) (omega arith) (omega arith)
 
 pub member_and : (a b v : ℕ) → member (bit_and a b) v ≡ common (member a) (member b) v
 member_and a b v =
     ap (λ n. eqb (n % 2) 1) (and_shr a b v) ∙ ap (λ n. eqb n 1) (last_and (a / 2 ^ v) (b / 2 ^ v))
-    ∙ bit_and (a / 2 ^ v % 2) (b / 2 ^ v % 2) (omega arith) (omega arith)
+    ∙ bits_and (a / 2 ^ v % 2) (b / 2 ^ v % 2) (omega arith) (omega arith)
 
 -- ---- the bits of a half are those behind the last
 

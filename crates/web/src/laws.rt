@@ -19,7 +19,7 @@ pub fn agreement_is_lawful()
 
 // A pair tells by what its two Webs tell.
 pub fn pairs_tell<V: Web, W: Web>()
-    ensures { (v : V) (w : W) (iri : List ℕ) → tells_of (either_mark Cause-as-Cause-1.mark Cause-as-Cause-2.mark) (λ (p : Pair V W) (i : List ℕ). both (V.Web.meaning p.first i) (W.Web.meaning p.second i)) (record { first = v; second = w }) iri ≡ or_told (tells_of Cause-as-Cause-1.mark V.Web.meaning v iri) (tells_of Cause-as-Cause-2.mark W.Web.meaning w iri) }
+    ensures { (v : V) (w : W) (iri : List ℕ) → tells_of (either_mark V.Cause.mark W.Cause.mark) (λ (p : Pair V W) (i : List ℕ). both (V.Web.meaning p.first i) (W.Web.meaning p.second i)) (record { first = v; second = w }) iri ≡ or_told (tells_of V.Cause.mark V.Web.meaning v iri) (tells_of W.Cause.mark W.Web.meaning w iri) }
 {}
 
 // Whatever the make, a term that a read names has at most 128 bytes, so a buffer of 128 bytes is never too short.

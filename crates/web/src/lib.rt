@@ -8,7 +8,6 @@ mod pair_web;
 mod web;
 mod writes;
 
-use crate::pair_web::Cause as _;
 pub use answers::{Lookup, Unread, Written};
 pub use laws::{agreement_is_lawful, pairs_tell, terms_fit};
 pub use pair::{Pair, PairCause};
