@@ -9,6 +9,6 @@ returns c =
     let out = c.args.out.now in
     let x = c.args.bytes.now in
     let n = length x + 1 in
-    ap₂ (λ (y : List ℕ) (e : ℕ). set (put_mid 1 (n - 1) (set out 0 c.before-2.result) y) n e) c.copy-from-slice.ensures.after c.behind.ensures
+    ap₂ (λ (y : List ℕ) (e : ℕ). set (put_mid 1 (n - 1) (set out 0 c.before-2.result) y) n e) c.copy_from_slice.ensures.after c.behind.ensures
     ∙ ap (λ (b : ℕ). set (put_mid 1 (n - 1) (set out 0 b) x) n (behind c.args.kind)) c.before-2.ensures
     ∙ written out x (before c.args.kind) (behind c.args.kind) (omega (arith, c.requires))

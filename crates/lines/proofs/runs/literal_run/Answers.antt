@@ -4,11 +4,11 @@ use Rattle.lines.proofs.Fronts.{front_more, front_stops, front_past, front_fits}
 use Rattle.lines.proofs.runs.literal_run.Goals as goal
 
 pub loop-end-preserved : goal.loop-end-preserved
-loop-end-preserved c = c.loop-end.invariant ∙ front_more literal_byte c.args.bytes.now c.loop-end.end (omega arith) (sym c.if-is-literal-byte.ensures)
+loop-end-preserved c = c.loop-end.invariant ∙ front_more literal_byte c.args.bytes.now c.loop-end.end (omega arith) (sym c.if-is_literal_byte.ensures)
 
-pub returns-else-is-literal-byte : goal.returns-else-is-literal-byte
-returns-else-is-literal-byte c =
-    record { longest = front_stops literal_byte c.args.bytes.now c.loop-end.end (omega arith) (sym c.if-is-literal-byte.ensures) ∙ sym c.loop-end.invariant; within = omega arith }
+pub returns-else-is_literal_byte : goal.returns-else-is_literal_byte
+returns-else-is_literal_byte c =
+    record { longest = front_stops literal_byte c.args.bytes.now c.loop-end.end (omega arith) (sym c.if-is_literal_byte.ensures) ∙ sym c.loop-end.invariant; within = omega arith }
 
 pub returns-after-loop-end : goal.returns-after-loop-end
 returns-after-loop-end c =

@@ -6,8 +6,8 @@ use Rattle.lexicon.proofs.Cutting.{Laid, laid_take, sizes_take}
 use Rattle.lexicon.proofs.Holding.{laid, held_count, held_cut, start_read}
 use Rattle.lexicon.proofs.lexicon.Lexicon.cut.Goals as goal
 
-pub invariant-of-self : goal.invariant-of-self
-invariant-of-self c =
+pub invariant_of-self : goal.invariant_of-self
+invariant_of-self c =
     let l = c.args.self.now in
     let e = c.shorten.ensures in
     let text = c.shorten.new.text in
@@ -19,11 +19,11 @@ invariant-of-self c =
     let nk = ap length e.kinds ∙ length-take _ (vec_items l.kinds) in
     let np = ap length e.parts ∙ length-take _ (vec_items l.parts) in
     let laid' : Laid (vec_items parts) = subst Laid (sym e.parts) (laid_take (vec_items l.parts) c.args.count (laid l)) in (
-      omega (arith, e.text-room, l.text_room),
+      omega (arith, e.text_room, l.text_room),
       (
-        omega (arith, e.kinds-room, l.kinds_room),
+        omega (arith, e.kinds_room, l.kinds_room),
         (
-          omega (arith, e.parts-room, l.parts_room),
+          omega (arith, e.parts_room, l.parts_room),
           (
             omega (arith, nt, text.ok.0, l.text.ok.0, l.short),
             (

@@ -28,8 +28,8 @@ returns-then-len-ge1024 c =
     let r = admit_not (held l) t full in
     record { answer = r.0; after = r.1 }
 
-pub invariant-of-self : goal.invariant-of-self
-invariant-of-self c =
+pub invariant_of-self : goal.invariant_of-self
+invariant_of-self c =
     let l = c.args.self.now in
     let e = c.append.ensures in
     let x = c.args.bytes.now in
@@ -41,11 +41,11 @@ invariant-of-self c =
     let nk = ap length e.kinds ∙ length-append (vec_items l.kinds) _ in
     let np = ap length e.parts ∙ length-append (vec_items l.parts) (p ∷ []) in
     let laid' : Laid (vec_items parts) = subst Laid (sym e.parts) (laid_behind (vec_items l.parts) p (laid l) (sym l.whole)) in (
-      omega (arith, e.text-room, l.text_room),
+      omega (arith, e.text_room, l.text_room),
       (
-        omega (arith, e.kinds-room, l.kinds_room),
+        omega (arith, e.kinds_room, l.kinds_room),
         (
-          omega (arith, e.parts-room, l.parts_room),
+          omega (arith, e.parts_room, l.parts_room),
           (
             omega (arith, nt, text.ok.0, l.text.ok.0, l.short, c.if-bytes-len.false),
             (

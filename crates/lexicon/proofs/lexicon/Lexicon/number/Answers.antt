@@ -8,15 +8,15 @@ use Rattle.lexicon.proofs.lexicon.Lexicon.number.Goals as goal
 pub loop-place-init : goal.loop-place-init
 loop-place-init c = number_start (held c.args.self.now) _
 
-pub returns-then-is-at : goal.returns-then-is-at
-returns-then-is-at c =
+pub returns-then-is_at : goal.returns-then-is_at
+returns-then-is_at c =
     let l = c.args.self.now in
-    number_found (held l) _ no_term c.loop-place.place (omega (arith, held_count l)) c.loop-place.invariant (sym c.if-is-at.ensures)
+    number_found (held l) _ no_term c.loop-place.place (omega (arith, held_count l)) c.loop-place.invariant (sym c.if-is_at.ensures)
 
 pub loop-place-preserved : goal.loop-place-preserved
 loop-place-preserved c =
     let l = c.args.self.now in
-    number_more (held l) _ no_term c.loop-place.place (omega (arith, held_count l)) c.loop-place.invariant (sym c.if-is-at.ensures)
+    number_more (held l) _ no_term c.loop-place.place (omega (arith, held_count l)) c.loop-place.invariant (sym c.if-is_at.ensures)
 
 pub returns : goal.returns
 returns c =

@@ -17,4 +17,4 @@ returns-then-number-eq0 c =
     sym none
 
 pub returns : goal.returns
-returns c = term_read c.args.self.now c.args.number c.index.result.now c.bytes-at.result.now (omega (arith, c.if-number-eq0.false)) (omega (arith, c.if-number-len.false, c.len.ensures)) c.index.ensures c.bytes-at.ensures
+returns c = term_read c.args.self.now c.args.number c.index.result.now c.bytes_at.result.now (omega (arith, c.if-number-eq0.false)) (omega (arith, c.if-number-len.false, c.len.ensures)) c.index.ensures c.bytes_at.ensures

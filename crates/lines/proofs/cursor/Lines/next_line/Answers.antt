@@ -4,12 +4,12 @@ use Rattle.lines.proofs.Cutting.{line_taken}
 use Rattle.lines.proofs.cursor.Lines.next_line.Goals as goal
 use Rattle.lines.proofs.cursor.Lines.next_line.Goals.{then-length-rest, else-length-rest}
 
-pub returns-then-is-empty : goal.returns-then-is-empty
-returns-then-is-empty c = (nil_from_length c.args.self.now.rest.now (true-eqb _ _ c.if-is-empty.ensures), refl)
+pub returns-then-is_empty : goal.returns-then-is_empty
+returns-then-is_empty c = (nil_from_length c.args.self.now.rest.now (true-eqb _ _ c.if-is_empty.ensures), refl)
 
 pub returns : goal.returns
 returns c =
-    let some = false-eqb _ _ c.if-is-empty.ensures in
-    line_taken c.args.self.now.passed c.args.self.now.rest.now c.line-length-length.result c.if-length-rest.next (omega arith) c.line-length-length.ensures.longest c.line-length-length.ensures.within
+    let some = false-eqb _ _ c.if-is_empty.ensures in
+    line_taken c.args.self.now.passed c.args.self.now.rest.now c.line_length-length.result c.if-length-rest.next (omega arith) c.line_length-length.ensures.longest c.line_length-length.ensures.within
     (λ h. elim c.if-length-rest.branch [ then-length-rest w ↦ w.next-is | else-length-rest w ↦ absurd (omega arith) ])
     (λ h. elim c.if-length-rest.branch [ then-length-rest w ↦ absurd (omega arith) | else-length-rest w ↦ w.next-is ])

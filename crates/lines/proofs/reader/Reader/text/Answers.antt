@@ -9,19 +9,19 @@ loop-b-preserved c =
     let rest = c.loop-b.reader.rest.now in
     let text = c.args.text.now in
     let i = c.loop-b.b-index in (
-      c.loop-b.invariant.0 ∙ behind_more text i rest (omega arith) ∙ then_some {o = behind (get_or text i 0 ∷ []) rest} (behind (drop (i + 1) text)) c.in-ok-reader.reader.rest.now c.in-ok-reader.ensures.0,
-      c.in-ok-reader.ensures.1 ∙ c.loop-b.invariant.1,
+      c.loop-b.invariant.0 ∙ behind_more text i rest (omega arith) ∙ then_some {o = behind (get_or text i 0 ∷ []) rest} (behind (drop (i + 1) text)) c.in_ok-reader.reader.rest.now c.in_ok-reader.ensures.0,
+      c.in_ok-reader.ensures.1 ∙ c.loop-b.invariant.1,
     )
 
-pub returns-in-err-reader : goal.returns-in-err-reader
-returns-in-err-reader c =
+pub returns-in_err-reader : goal.returns-in_err-reader
+returns-in_err-reader c =
     let rest = c.loop-b.reader.rest.now in
     let text = c.args.text.now in
     let i = c.loop-b.b-index in
-    let p = err_from_is_err_and c.from-residual.result c.from-residual.ensures.1 in
+    let p = err_from_is_err_and c.from_residual.result c.from_residual.ensures.1 in
     rw (p.1, p.2) (
-      c.loop-b.invariant.0 ∙ behind_more text i rest (omega arith) ∙ then_none {o = behind (get_or text i 0 ∷ []) rest} (behind (drop (i + 1) text)) c.in-err-reader.ensures.0,
-      c.in-err-reader.ensures.1 ∙ c.loop-b.invariant.1,
+      c.loop-b.invariant.0 ∙ behind_more text i rest (omega arith) ∙ then_none {o = behind (get_or text i 0 ∷ []) rest} (behind (drop (i + 1) text)) c.in_err-reader.ensures.0,
+      c.in_err-reader.ensures.1 ∙ c.loop-b.invariant.1,
     )
 
 pub returns : goal.returns

@@ -9,7 +9,7 @@ returns-then-number-variables c =
     let q = c.args.self.now in
     told (name_of (vec_items q.text)) (vec_items q.names) c.args.number c.index.result.now c.of.result.now
     (omega (arith, c.if-number-variables.true, c.variables.ensures, length-map (vec_items q.names) (name_of (vec_items q.text)))) c.index.ensures
-    (c.of.ensures ∙ ap (λ t. name_of t c.index.result.now) c.as-slice.ensures.value)
+    (c.of.ensures ∙ ap (λ t. name_of t c.index.result.now) c.as_slice.ensures.value)
 
 pub index-requires : goal.index-requires
 index-requires c =

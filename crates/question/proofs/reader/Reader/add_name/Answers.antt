@@ -11,4 +11,4 @@ returns-then-of-gt16 c = name_long _ c.requires (omega (arith, c.if-number-ge8.f
 pub returns : goal.returns
 returns c =
     name_new c.args.text.now (record { next = refl; full = refl; paths = refl; patterns = refl; nodes = refl }) refl refl
-    c.args.span c.len-number.result c.push-reserved.ensures.items (c.len-number.ensures ∙ c.args.self.now.built.names.ok.0) (omega (arith, c.if-number-ge8.false)) (omega (arith, ap length c.of.ensures, c.if-of-gt16.false)) c.requires
+    c.args.span c.len-number.result c.push_reserved.ensures.items (c.len-number.ensures ∙ c.args.self.now.built.names.ok.0) (omega (arith, c.if-number-ge8.false)) (omega (arith, ap length c.of.ensures, c.if-of-gt16.false)) c.requires

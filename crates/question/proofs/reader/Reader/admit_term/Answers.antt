@@ -8,4 +8,4 @@ returns-then-of-gt128 c = term_long c.args.kind _ (omega (arith, ap length c.of.
 pub returns : goal.returns
 returns c =
     term_kept c.args.text.now (record { next = refl; full = refl; paths = refl; patterns = refl; nodes = refl }) refl refl
-    _ c.len-number.result c.push-reserved.ensures.items (c.len-number.ensures ∙ c.args.self.now.built.terms.ok.0) (omega (arith, ap length c.of.ensures, c.if-of-gt128.false))
+    _ c.len-number.result c.push_reserved.ensures.items (c.len-number.ensures ∙ c.args.self.now.built.terms.ok.0) (omega (arith, ap length c.of.ensures, c.if-of-gt128.false))

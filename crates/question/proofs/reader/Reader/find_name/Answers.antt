@@ -11,16 +11,16 @@ loop-i-preserved c =
     let ss = vec_items c.args.self.now.built.names in
     let x = name_of text c.args.name in
     let h : c.loop-i.i < length ss = omega (arith, c.loop-i-test.true, c.len-i-end.ensures, c.args.self.now.built.names.ok.0) in
-    c.loop-i.invariant ∙ not_here x text ss c.loop-i.i d h (tested x (name_of text (get_or ss c.loop-i.i d)) c.same-bytes.ensures c.of.ensures (c.of-in-loop-i.ensures ∙ ap (name_of text) c.index.ensures) ∙ c.if-same-bytes.false)
+    c.loop-i.invariant ∙ not_here x text ss c.loop-i.i d h (tested x (name_of text (get_or ss c.loop-i.i d)) c.same_bytes.ensures c.of.ensures (c.of-in-loop-i.ensures ∙ ap (name_of text) c.index.ensures) ∙ c.if-same_bytes.false)
 
-pub returns-then-same-bytes : goal.returns-then-same-bytes
-returns-then-same-bytes c =
+pub returns-then-same_bytes : goal.returns-then-same_bytes
+returns-then-same_bytes c =
     let text = c.args.text.now in
     let d = c.index.result.now in
     let ss = vec_items c.args.self.now.built.names in
     let x = name_of text c.args.name in
     let h : c.loop-i.i < length ss = omega (arith, c.loop-i-test.true, c.len-i-end.ensures, c.args.self.now.built.names.ok.0) in
-    let t = tested x (name_of text (get_or ss c.loop-i.i d)) c.same-bytes.ensures c.of.ensures (c.of-in-loop-i.ensures ∙ ap (name_of text) c.index.ensures) ∙ c.if-same-bytes.true in
+    let t = tested x (name_of text (get_or ss c.loop-i.i d)) c.same_bytes.ensures c.of.ensures (c.of-in-loop-i.ensures ∙ ap (name_of text) c.index.ensures) ∙ c.if-same_bytes.true in
     (c.loop-i.invariant ∙ here x text ss c.loop-i.i d h t, stands_there x text ss c.loop-i.i d h t)
 
 pub returns : goal.returns

@@ -7,30 +7,30 @@ use Rattle.question.proofs.reader.Reader.members.Goals as goal
 pub loop-self-init : goal.loop-self-init
 loop-self-init c = (c.requires.ready, members_begun (view c.args.text.now c.args.self.now))
 
-pub returns-in-err-expect : goal.returns-in-err-expect
-returns-in-err-expect c =
-    let p = err_from_is_err_and c.from-residual.result c.from-residual.ensures.1 in
+pub returns-in_err-expect : goal.returns-in_err-expect
+returns-in_err-expect c =
+    let p = err_from_is_err_and c.from_residual.result c.from_residual.ensures.1 in
     let e = points c.args.text.now c.loop-self.self.next c.in-Bar.is in
-    rw (p.1, p.2) (record { ready = tt; outcome = record { is = member_sign c.loop-self.invariant.1 e c.in-err-expect.ensures.outcome.is } })
+    rw (p.1, p.2) (record { ready = tt; outcome = record { is = member_sign c.loop-self.invariant.1 e c.in_err-expect.ensures.outcome.is } })
 
-pub returns-in-err-expect-2 : goal.returns-in-err-expect-2
-returns-in-err-expect-2 c =
-    let p = err_from_is_err_and c.from-residual-in-err-expect-2.result c.from-residual-in-err-expect-2.ensures.1 in
+pub returns-in_err-expect-2 : goal.returns-in_err-expect-2
+returns-in_err-expect-2 c =
+    let p = err_from_is_err_and c.from_residual-in_err-expect-2.result c.from_residual-in_err-expect-2.ensures.1 in
     let e = points c.args.text.now c.loop-self.self.next c.in-Bar.is in
-    rw (p.1, p.2) (record { ready = tt; outcome = record { is = member_fails c.loop-self.invariant.1 e c.in-ok-expect.ensures.outcome.is c.in-err-expect-2.ensures.outcome.is } })
+    rw (p.1, p.2) (record { ready = tt; outcome = record { is = member_fails c.loop-self.invariant.1 e c.in_ok-expect.ensures.outcome.is c.in_err-expect-2.ensures.outcome.is } })
 
 pub loop-self-preserved : goal.loop-self-preserved
 loop-self-preserved c =
     let e = points c.args.text.now c.loop-self.self.next c.in-Bar.is in
-    (c.in-ok-expect-2.ensures.ready, member_more c.loop-self.invariant.1 e c.in-ok-expect.ensures.outcome.is c.in-ok-expect-2.ensures.outcome.is)
+    (c.in_ok-expect-2.ensures.ready, member_more c.loop-self.invariant.1 e c.in_ok-expect.ensures.outcome.is c.in_ok-expect-2.ensures.outcome.is)
 
-pub returns-in-err-expect-3 : goal.returns-in-err-expect-3
-returns-in-err-expect-3 c =
-    let p = err_from_is_err_and c.from-residual-in-err-expect-3.result c.from-residual-in-err-expect-3.ensures.1 in
-    rw (p.1, p.2) (record { ready = tt; outcome = record { is = members_fails c.loop-self.invariant.1 (elsewhere c.args.text.now c.loop-self.self.next c.in-default.not-Bar) c.in-err-expect-3.ensures.outcome.is } })
+pub returns-in_err-expect-3 : goal.returns-in_err-expect-3
+returns-in_err-expect-3 c =
+    let p = err_from_is_err_and c.from_residual-in_err-expect-3.result c.from_residual-in_err-expect-3.ensures.1 in
+    rw (p.1, p.2) (record { ready = tt; outcome = record { is = members_fails c.loop-self.invariant.1 (elsewhere c.args.text.now c.loop-self.self.next c.in_default.not-Bar) c.in_err-expect-3.ensures.outcome.is } })
 
 pub returns : goal.returns
 returns c = record {
-  ready = c.in-ok-expect-3.ensures.ready;
-  outcome = record { is = members_read c.loop-self.invariant.1 (elsewhere c.args.text.now c.loop-self.self.next c.in-default.not-Bar) c.in-ok-expect-3.ensures.outcome.is };
+  ready = c.in_ok-expect-3.ensures.ready;
+  outcome = record { is = members_read c.loop-self.invariant.1 (elsewhere c.args.text.now c.loop-self.self.next c.in_default.not-Bar) c.in_ok-expect-3.ensures.outcome.is };
 }
