@@ -18,25 +18,7 @@ invariant_of-self c =
     let nt = ap length e.text ∙ length-take _ (vec_items l.text) in
     let nk = ap length e.kinds ∙ length-take _ (vec_items l.kinds) in
     let np = ap length e.parts ∙ length-take _ (vec_items l.parts) in
-    let laid' : Laid (vec_items parts) = subst Laid (sym e.parts) (laid_take (vec_items l.parts) c.args.count (laid l)) in (
-      omega (arith, e.text_room, l.text_room),
-      (
-        omega (arith, e.kinds_room, l.kinds_room),
-        (
-          omega (arith, e.parts_room, l.parts_room),
-          (
-            omega (arith, nt, text.ok.0, l.text.ok.0, l.short),
-            (
-              omega (arith, nk, kinds.ok.0, l.kinds.ok.0, l.few),
-              (
-                omega (arith, nk, np, kinds.ok.0, parts.ok.0, l.kinds.ok.0, l.parts.ok.0, l.paired),
-                ((λ k h. laid' k (omega (arith, h, parts.ok.0))), (omega (arith, ap sizes e.parts, start, nt, text.ok.0, sizes_take (vec_items l.parts) c.args.count, l.whole, l.text.ok.0), tt)),
-              ),
-            ),
-          ),
-        ),
-      ),
-    )
+    let laid' : Laid (vec_items parts) = subst Laid (sym e.parts) (laid_take (vec_items l.parts) c.args.count (laid l)) in record { text_room = omega (arith, e.text_room, l.text_room); kinds_room = omega (arith, e.kinds_room, l.kinds_room); parts_room = omega (arith, e.parts_room, l.parts_room); short = omega (arith, nt, text.ok.0, l.text.ok.0, l.short); few = omega (arith, nk, kinds.ok.0, l.kinds.ok.0, l.few); paired = omega (arith, nk, np, kinds.ok.0, parts.ok.0, l.kinds.ok.0, l.parts.ok.0, l.paired); starts = (λ k h. laid' k (omega (arith, h, parts.ok.0))); whole = omega (arith, ap sizes e.parts, start, nt, text.ok.0, sizes_take (vec_items l.parts) c.args.count, l.whole, l.text.ok.0) }
 
 pub returns-then-count-len : goal.returns-then-count-len
 returns-then-count-len c =

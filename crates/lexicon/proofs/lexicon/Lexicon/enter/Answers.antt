@@ -40,25 +40,7 @@ invariant_of-self c =
     let nt = ap length e.text ∙ length-append (vec_items l.text) x in
     let nk = ap length e.kinds ∙ length-append (vec_items l.kinds) _ in
     let np = ap length e.parts ∙ length-append (vec_items l.parts) (p ∷ []) in
-    let laid' : Laid (vec_items parts) = subst Laid (sym e.parts) (laid_behind (vec_items l.parts) p (laid l) (sym l.whole)) in (
-      omega (arith, e.text_room, l.text_room),
-      (
-        omega (arith, e.kinds_room, l.kinds_room),
-        (
-          omega (arith, e.parts_room, l.parts_room),
-          (
-            omega (arith, nt, text.ok.0, l.text.ok.0, l.short, c.if-bytes-len.false),
-            (
-              omega (arith, nk, kinds.ok.0, l.kinds.ok.0, c.if-len-ge1024.false, c.len.ensures),
-              (
-                omega (arith, nk, np, kinds.ok.0, parts.ok.0, l.kinds.ok.0, l.parts.ok.0, l.paired),
-                ((λ k h. laid' k (omega (arith, h, parts.ok.0))), (omega (arith, ap sizes e.parts, sizes_behind (vec_items l.parts) p, l.whole, nt, text.ok.0, l.text.ok.0), tt)),
-              ),
-            ),
-          ),
-        ),
-      ),
-    )
+    let laid' : Laid (vec_items parts) = subst Laid (sym e.parts) (laid_behind (vec_items l.parts) p (laid l) (sym l.whole)) in record { text_room = omega (arith, e.text_room, l.text_room); kinds_room = omega (arith, e.kinds_room, l.kinds_room); parts_room = omega (arith, e.parts_room, l.parts_room); short = omega (arith, nt, text.ok.0, l.text.ok.0, l.short, c.if-bytes-len.false); few = omega (arith, nk, kinds.ok.0, l.kinds.ok.0, c.if-len-ge1024.false, c.len.ensures); paired = omega (arith, nk, np, kinds.ok.0, parts.ok.0, l.kinds.ok.0, l.parts.ok.0, l.paired); starts = (λ k h. laid' k (omega (arith, h, parts.ok.0))); whole = omega (arith, ap sizes e.parts, sizes_behind (vec_items l.parts) p, l.whole, nt, text.ok.0, l.text.ok.0) }
 
 pub returns : goal.returns
 returns c =
