@@ -81,7 +81,7 @@ fn gather<W: Web>(
 // Looks an IRI up, and keeps what its document lists if all of it fits.
 fn fetch<W: Web>(web: &W, iri: &[u8], terms: &mut Lexicon, triples: &mut Vec<Listed>) -> Mark
     requires { (vec_len triples.old ≤ 4096) × (4096 ≤ vec_capacity triples.old) }
-    ensures fetched { Fetched (told Cause-as-Cause.mark (W.Web.meaning web.now iri.now)) (held terms.old) triples.old.items result (held terms.new) triples.new.items }
+    ensures fetched { Fetched (told W.Cause.mark (W.Web.meaning web.now iri.now)) (held terms.old) triples.old.items result (held terms.new) triples.new.items }
     ensures room { vec_capacity triples.new ≡ vec_capacity triples.old }
 {
     match web.lookup(iri) {
@@ -132,7 +132,7 @@ fn note<W: Web>(
     marks: &mut Vec<Mark>,
 )
     requires { (vec_len triples.old ≤ 4096) × ((4096 ≤ vec_capacity triples.old) × ((vec_len noted.old < vec_capacity noted.old) × (vec_len marks.old < vec_capacity marks.old))) }
-    ensures recorded { Recorded (told Cause-as-Cause.mark (W.Web.meaning web.now address.now)) iri (held terms.old) triples.old.items noted.old.items marks.old.items (held terms.new) triples.new.items noted.new.items marks.new.items }
+    ensures recorded { Recorded (told W.Cause.mark (W.Web.meaning web.now address.now)) iri (held terms.old) triples.old.items noted.old.items marks.old.items (held terms.new) triples.new.items noted.new.items marks.new.items }
     ensures triples_room { vec_capacity triples.new ≡ vec_capacity triples.old }
     ensures noted_room { vec_capacity noted.new ≡ vec_capacity noted.old }
     ensures marks_room { vec_capacity marks.new ≡ vec_capacity marks.old }
@@ -151,7 +151,7 @@ impl Store {
     // Looks up the IRI with a number, and keeps what the Web tells of it.
     pub fn look<W: Web>(&mut self, web: &W, iri: u16) -> Result<(), Unlooked>
         ensures answer { result ≡ looks iri (view self.old) }
-        ensures after { view self.new ≡ looked (tells_of Cause-as-Cause.mark W.Web.meaning web.now) iri (view self.old) }
+        ensures after { view self.new ≡ looked (tells_of W.Cause.mark W.Web.meaning web.now) iri (view self.old) }
         ensures numbers { self.new.numbers ≡ self.old.numbers }
     {
         if self.noted.len() >= 256 {

@@ -12,8 +12,8 @@ both {a} {b} {r} e f = f ∙ ap (λ x. x && b) e
 neither : {a : Bool} (b : Bool) → false ≡ a → false ≡ a && b
 neither b e = ap (λ x. x && b) e
 
-pub walkable-returns-in-default : goal.walkable-returns-in-default
-walkable-returns-in-default t c = ap (λ p. walkable p c.args.left c.args.right) (sym (no_path (env_of c.args.q.now).term c.args.q.now c.args.index c.in-default.ensures))
+pub walkable-returns-in_default : goal.walkable-returns-in_default
+walkable-returns-in_default t c = ap (λ p. walkable p c.args.left c.args.right) (sym (no_path (env_of c.args.q.now).term c.args.q.now c.args.index c.in_default.ensures))
 
 pub walkable-walkable-requires : goal.walkable-walkable-requires
 walkable-walkable-requires t c = (omega (arith, c.decreases, path_above c.args.q.now c.args.index _ _ c.in-Some.ensures c.in-Inverse.is), tt)
@@ -27,11 +27,11 @@ walkable-returns-in-Negated t c = walks_as c.args.q.now c.args.index _ _ c.in-So
 pub walkable-returns-in-Inverse : goal.walkable-returns-in-Inverse
 walkable-returns-in-Inverse t c = c.walkable.ensures ∙ walks_as c.args.q.now c.args.index _ _ c.in-Some.ensures c.in-Inverse.is c.args.left c.args.right
 
-pub walkable-walkable-again-requires : goal.walkable-walkable-again-requires
-walkable-walkable-again-requires t c = (omega (arith, c.decreases, path_above c.args.q.now c.args.index _ _ c.in-Some.ensures c.in-Star.is), tt)
+pub walkable-walkable_again-requires : goal.walkable-walkable_again-requires
+walkable-walkable_again-requires t c = (omega (arith, c.decreases, path_above c.args.q.now c.args.index _ _ c.in-Some.ensures c.in-Star.is), tt)
 
-pub walkable-walkable-in-turn-requires : goal.walkable-walkable-in-turn-requires
-walkable-walkable-in-turn-requires t c = (omega (arith, c.decreases, path_above c.args.q.now c.args.index _ _ c.in-Some.ensures c.in-Sequence.is), tt)
+pub walkable-walkable_in_turn-requires : goal.walkable-walkable_in_turn-requires
+walkable-walkable_in_turn-requires t c = (omega (arith, c.decreases, path_above c.args.q.now c.args.index _ _ c.in-Some.ensures c.in-Sequence.is), tt)
 
 pub walkable-walkable-requires-in-Alternative : goal.walkable-walkable-requires-in-Alternative
 walkable-walkable-requires-in-Alternative t c = (omega (arith, c.decreases, path_above c.args.q.now c.args.index _ _ c.in-Some.ensures c.in-Alternative.is), tt)
@@ -40,10 +40,10 @@ pub walkable-walkable-requires-then-walkable : goal.walkable-walkable-requires-t
 walkable-walkable-requires-then-walkable t c = (omega (arith, c.decreases, path_above c.args.q.now c.args.index _ _ c.in-Some.ensures c.in-Alternative.is), tt)
 
 pub walkable-returns-in-Star : goal.walkable-returns-in-Star
-walkable-returns-in-Star t c = c.walkable-again.ensures ∙ walks_as c.args.q.now c.args.index _ _ c.in-Some.ensures c.in-Star.is c.args.left c.args.right
+walkable-returns-in-Star t c = c.walkable_again.ensures ∙ walks_as c.args.q.now c.args.index _ _ c.in-Some.ensures c.in-Star.is c.args.left c.args.right
 
 pub walkable-returns-in-Sequence : goal.walkable-returns-in-Sequence
-walkable-returns-in-Sequence t c = c.walkable-in-turn.ensures ∙ walks_as c.args.q.now c.args.index _ _ c.in-Some.ensures c.in-Sequence.is c.args.left c.args.right
+walkable-returns-in-Sequence t c = c.walkable_in_turn.ensures ∙ walks_as c.args.q.now c.args.index _ _ c.in-Some.ensures c.in-Sequence.is c.args.left c.args.right
 
 pub walkable-returns-then-walkable : goal.walkable-returns-then-walkable
 walkable-returns-then-walkable t c = both c.if-walkable.ensures c.walkable-then-walkable.ensures ∙ walks_as c.args.q.now c.args.index _ _ c.in-Some.ensures c.in-Alternative.is c.args.left c.args.right
@@ -51,5 +51,5 @@ walkable-returns-then-walkable t c = both c.if-walkable.ensures c.walkable-then-
 pub walkable-returns-else-walkable : goal.walkable-returns-else-walkable
 walkable-returns-else-walkable t c = c.if-walkable.false ∙ neither _ c.if-walkable.ensures ∙ walks_as c.args.q.now c.args.index _ _ c.in-Some.ensures c.in-Alternative.is c.args.left c.args.right
 
-pub walkable-in-turn-returns-then-walkable : goal.walkable-in-turn-returns-then-walkable
-walkable-in-turn-returns-then-walkable t c = c.walkable-then-walkable.ensures ∙ sym (first_part_decides (path_is c.args.q.now c.args.first) (path_is c.args.q.now c.args.second) c.args.left c.args.right (sym c.if-walkable.ensures))
+pub walkable_in_turn-returns-then-walkable : goal.walkable_in_turn-returns-then-walkable
+walkable_in_turn-returns-then-walkable t c = c.walkable-then-walkable.ensures ∙ sym (first_part_decides (path_is c.args.q.now c.args.first) (path_is c.args.q.now c.args.second) c.args.left c.args.right (sym c.if-walkable.ensures))

@@ -4,8 +4,8 @@ use Rattle.judging.proofs.paths.+walkable_walkable_again_walkable_in_turn.Given 
 abbrev pub decreases-walkable : goal.decreases-walkable
 decreases-walkable l = 2 * l.index
 
-abbrev pub decreases-walkable-again : goal.decreases-walkable-again
-decreases-walkable-again l = 2 * l.part + 1
+abbrev pub decreases-walkable_again : goal.decreases-walkable_again
+decreases-walkable_again l = 2 * l.part + 1
 
-abbrev pub decreases-walkable-in-turn : goal.decreases-walkable-in-turn
-decreases-walkable-in-turn l = 2 * max l.first l.second + 1
+abbrev pub decreases-walkable_in_turn : goal.decreases-walkable_in_turn
+decreases-walkable_in_turn l = 2 * max l.first l.second + 1

@@ -19,4 +19,4 @@ returns-after-bytes-lt129 c =
     let o = term_at (held c.args.terms.now) c.args.iri in
     let had : Some (term c.in-Some.kind x) ≡ o = c.in-Some.ensures in
     let is : Some (term Iri x) ≡ o = ap (λ (k : Kind). Some (term k x)) (sym c.in-Iri.is) ∙ had in
-    copied_so o x n _ _ is h c.copy-from-slice.ensures.after
+    copied_so o x n _ _ is h c.copy_from_slice.ensures.after

@@ -6,8 +6,8 @@ use Rattle.web.specs.Laws.{lawful_triples}
 use Rattle.store.proofs.Fetching.{no_triple, cell_at, short_at, gathered_next, gathered_all, stops_one, stops_two, stops_three, three_entered}
 use Rattle.store.proofs.look.gather.Goals as goal
 
-pub returns-in-default : goal.returns-in-default
-returns-in-default g c =
+pub returns-in_default : goal.returns-in_default
+returns-in_default g c =
     let i = c.loop-place.invariant in
     let k = c.loop-place.place in
     record {
@@ -16,11 +16,11 @@ returns-in-default g c =
           let lt : k < length xs = omega (arith, n, c.loop-place-test.true) in
           let x = get_or xs k no_triple in
           let short = short_at xs k lt (ap (λ l. lawful_triples (triples l)) (sym e) ∙ (g.W.Web.lawful c.args.web.now c.args.iri.now).terms) in
-          stops_one (held c.args.terms.now) (vec_items c.args.triples.now) xs k _ _ _ lt (i.0 xs e n) (c.in-default.ensures x.subject (cell_at _ xs k 1 e lt) short.subject);
+          stops_one (held c.args.terms.now) (vec_items c.args.triples.now) xs k _ _ _ lt (i.0 xs e n) (c.in_default.ensures x.subject (cell_at _ xs k 1 e lt) short.subject);
     }
 
-pub returns-in-default-enter-part : goal.returns-in-default-enter-part
-returns-in-default-enter-part g c =
+pub returns-in_default-enter_part : goal.returns-in_default-enter_part
+returns-in_default-enter_part g c =
     let i = c.loop-place.invariant in
     let k = c.loop-place.place in
     record {
@@ -29,11 +29,11 @@ returns-in-default-enter-part g c =
           let lt : k < length xs = omega (arith, n, c.loop-place-test.true) in
           let x = get_or xs k no_triple in
           let short = short_at xs k lt (ap (λ l. lawful_triples (triples l)) (sym e) ∙ (g.W.Web.lawful c.args.web.now c.args.iri.now).terms) in
-          stops_two (held c.args.terms.now) (vec_items c.args.triples.now) xs k _ _ _ _ c.in-Some.subject lt (i.0 xs e n) (c.in-Some.ensures x.subject (cell_at _ xs k 1 e lt) short.subject) (c.in-default-enter-part.ensures x.predicate (cell_at _ xs k 2 e lt) short.predicate);
+          stops_two (held c.args.terms.now) (vec_items c.args.triples.now) xs k _ _ _ _ c.in-Some.subject lt (i.0 xs e n) (c.in-Some.ensures x.subject (cell_at _ xs k 1 e lt) short.subject) (c.in_default-enter_part.ensures x.predicate (cell_at _ xs k 2 e lt) short.predicate);
     }
 
-pub returns-in-default-enter-part-2 : goal.returns-in-default-enter-part-2
-returns-in-default-enter-part-2 g c =
+pub returns-in_default-enter_part-2 : goal.returns-in_default-enter_part-2
+returns-in_default-enter_part-2 g c =
     let i = c.loop-place.invariant in
     let k = c.loop-place.place in
     record {
@@ -42,7 +42,7 @@ returns-in-default-enter-part-2 g c =
           let lt : k < length xs = omega (arith, n, c.loop-place-test.true) in
           let x = get_or xs k no_triple in
           let short = short_at xs k lt (ap (λ l. lawful_triples (triples l)) (sym e) ∙ (g.W.Web.lawful c.args.web.now c.args.iri.now).terms) in
-          stops_three (held c.args.terms.now) (vec_items c.args.triples.now) xs k _ _ _ _ _ c.in-Some.subject c.in-Some-enter-part.predicate lt (i.0 xs e n) (c.in-Some.ensures x.subject (cell_at _ xs k 1 e lt) short.subject) (c.in-Some-enter-part.ensures x.predicate (cell_at _ xs k 2 e lt) short.predicate) (c.in-default-enter-part-2.ensures x.object (cell_at _ xs k 3 e lt) short.object);
+          stops_three (held c.args.terms.now) (vec_items c.args.triples.now) xs k _ _ _ _ _ c.in-Some.subject c.in-Some-enter_part.predicate lt (i.0 xs e n) (c.in-Some.ensures x.subject (cell_at _ xs k 1 e lt) short.subject) (c.in-Some-enter_part.ensures x.predicate (cell_at _ xs k 2 e lt) short.predicate) (c.in_default-enter_part-2.ensures x.object (cell_at _ xs k 3 e lt) short.object);
     }
 
 pub loop-place-preserved : goal.loop-place-preserved
@@ -53,11 +53,11 @@ loop-place-preserved g c =
           let lt : k < length xs = omega (arith, n, c.loop-place-test.true) in
           let x = get_or xs k no_triple in
           let short = short_at xs k lt (ap (λ l. lawful_triples (triples l)) (sym e) ∙ (g.W.Web.lawful c.args.web.now c.args.iri.now).terms) in
-          gathered_next (held c.args.terms.now) (vec_items c.args.triples.now) xs k _ _ _ _ c.in-Some.subject c.in-Some-enter-part.predicate c.in-Some-enter-part-2.object lt (i.0 xs e n)
-          (three_entered _ _ _ _ x c.in-Some.subject c.in-Some-enter-part.predicate c.in-Some-enter-part-2.object (c.in-Some.ensures x.subject (cell_at _ xs k 1 e lt) short.subject) (c.in-Some-enter-part.ensures x.predicate (cell_at _ xs k 2 e lt) short.predicate) (c.in-Some-enter-part-2.ensures x.object (cell_at _ xs k 3 e lt) short.object))
-          c.push-reserved.ensures.items),
-      c.push-reserved.ensures.capacity ∙ i.1,
-      omega (arith, i.2, c.push-reserved.ensures.len),
+          gathered_next (held c.args.terms.now) (vec_items c.args.triples.now) xs k _ _ _ _ c.in-Some.subject c.in-Some-enter_part.predicate c.in-Some-enter_part-2.object lt (i.0 xs e n)
+          (three_entered _ _ _ _ x c.in-Some.subject c.in-Some-enter_part.predicate c.in-Some-enter_part-2.object (c.in-Some.ensures x.subject (cell_at _ xs k 1 e lt) short.subject) (c.in-Some-enter_part.ensures x.predicate (cell_at _ xs k 2 e lt) short.predicate) (c.in-Some-enter_part-2.ensures x.object (cell_at _ xs k 3 e lt) short.object))
+          c.push_reserved.ensures.items),
+      c.push_reserved.ensures.capacity ∙ i.1,
+      omega (arith, i.2, c.push_reserved.ensures.len),
     )
 
 pub returns : goal.returns
