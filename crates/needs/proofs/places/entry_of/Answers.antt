@@ -8,8 +8,8 @@ use Rattle.needs.proofs.places.entry_of.Goals as goal
 pub loop-entry-init : goal.loop-entry-init
 loop-entry-init c = first_start (is_of c.args.iri) (view c.args.store.now).entries
 
-pub overflow-add-place : goal.overflow-add-place
-overflow-add-place c =
+pub overflow_add-place : goal.overflow_add-place
+overflow_add-place c =
     let s = c.args.store.now in
     omega (arith, (traced_ok (view s).entries c.loop-entry.place c.in-Ok.entry c.in-Ok.ensures).0, view_count s, s.few_noted)
 
@@ -19,7 +19,7 @@ loop-entry-smaller c =
     omega (arith, (traced_ok (view s).entries c.loop-entry.place c.in-Ok.entry c.in-Ok.ensures).0)
 
 pub returns : goal.returns
-returns c = first_none (is_of c.args.iri) (view c.args.store.now).entries c.loop-entry.place c.in-default.field-0 c.in-default.ensures c.loop-entry.invariant
+returns c = first_none (is_of c.args.iri) (view c.args.store.now).entries c.loop-entry.place c.in_default.field-0 c.in_default.ensures c.loop-entry.invariant
 
 pub returns-then-entry-iri : goal.returns-then-entry-iri
 returns-then-entry-iri c = first_here (is_of c.args.iri) (view c.args.store.now).entries c.loop-entry.place c.in-Ok.entry c.in-Ok.ensures c.loop-entry.invariant (eq-eqb _ _ c.if-entry-iri.true)

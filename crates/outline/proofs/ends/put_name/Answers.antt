@@ -8,7 +8,7 @@ use Rattle.outline.proofs.ends.put_name.Goals as goal
 pub returns-in-Some : goal.returns-in-Some
 returns-in-Some c =
     let t = c.in-Some.ensures in
-    then c.in-ok-put.ensures (adds_as (t.1 ∙ sym (t.2.is [])) c.put-in-Some.ensures)
+    then c.in_ok-put.ensures (adds_as (t.1 ∙ sym (t.2.is [])) c.put-in-Some.ensures)
 
 pub returns-in-None : goal.returns-in-None
-returns-in-None c = adds_as (ap name_text (sym (get_or_past (asked c.args.q.now).names c.args.number [] c.in-None.ensures))) c.in-ok-put.ensures
+returns-in-None c = adds_as (ap name_text (sym (get_or_past (asked c.args.q.now).names c.args.number [] c.in-None.ensures))) c.in_ok-put.ensures

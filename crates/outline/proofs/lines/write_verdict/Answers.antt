@@ -3,5 +3,5 @@ use Rattle.outline.specs.Outlined.{verdict_text}
 use Rattle.outline.proofs.Adding.{then, adds_as}
 use Rattle.outline.proofs.lines.write_verdict.Goals as goal
 
-pub returns-in-ok-put : goal.returns-in-ok-put
-returns-in-ok-put c = adds_as (ap verdict_text (sym c.in-Ok.is)) (then c.in-ok-put.ensures c.put-number.ensures)
+pub returns-in_ok-put-in-Ok : goal.returns-in_ok-put-in-Ok
+returns-in_ok-put-in-Ok c = adds_as (ap verdict_text (sym c.in-Ok.is)) (then c.in_ok-put-in-Ok.ensures c.put_number.ensures)

@@ -7,13 +7,13 @@ use Rattle.outline.proofs.paths.put_negated.Goals as goal
 pub loop-i-preserved : goal.loop-i-preserved
 loop-i-preserved c =
     let q = c.args.q.now in
-    member_more (env_of q).term c.args.first c.args.count c.loop-i.i c.saturating-add.result _ (vec_items c.loop-i.out) (vec_items c.put-in-loop-i.new.out) (vec_items c.put-term.new.out)
-    c.loop-i-test.true (term_capped q (c.args.first + c.loop-i.i) c.saturating-add.result c.saturating-add.ensures)
-    c.in-ok-put-2.ensures.wrote c.in-ok-put-term.ensures.wrote c.loop-i.invariant
+    member_more (env_of q).term c.args.first c.args.count c.loop-i.i c.saturating_add.result _ (vec_items c.loop-i.out) (vec_items c.put-in-loop-i.new.out) (vec_items c.put_term.new.out)
+    c.loop-i-test.true (term_capped q (c.args.first + c.loop-i.i) c.saturating_add.result c.saturating_add.ensures)
+    c.in_ok-put-2.ensures.wrote c.in_ok-put_term.ensures.wrote c.loop-i.invariant
 
 pub returns : goal.returns
 returns c =
     let q = c.args.q.now in
-    then c.in-ok-put.ensures
+    then c.in_ok-put.ensures
     (then (members_done (env_of q).term c.args.first c.args.count c.loop-i.i (vec_items c.put.new.out) (vec_items c.loop-i.out) c.loop-i-test.false c.loop-i.invariant)
     c.put-2.ensures)

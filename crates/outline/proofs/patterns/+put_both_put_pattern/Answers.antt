@@ -8,30 +8,30 @@ use Rattle.question.proofs.Standing.{past_limit, past_all}
 use Rattle.outline.proofs.Standing.{pattern_here}
 use Rattle.outline.proofs.patterns.+put_both_put_pattern.Goals as goal
 
-pub put-both-returns : goal.put-both-returns
-put-both-returns t c = then c.in-ok-put.ensures (then c.in-ok-put-pattern.ensures (then c.in-ok-put-2.ensures (then c.in-ok-put-pattern-2.ensures c.put-3.ensures)))
+pub put_both-returns : goal.put_both-returns
+put_both-returns t c = then c.in_ok-put.ensures (then c.in_ok-put_pattern.ensures (then c.in_ok-put-2.ensures (then c.in_ok-put_pattern-2.ensures c.put-3.ensures)))
 
-pub put-pattern-returns-then-index-limit : goal.put-pattern-returns-then-index-limit
-put-pattern-returns-then-index-limit t c =
+pub put_pattern-returns-then-index-limit : goal.put_pattern-returns-then-index-limit
+put_pattern-returns-then-index-limit t c =
     let q = c.args.q.now in
     adds_as (ap pattern_text (sym (past_limit (pattern_of (env_of q)) (vec_items q.patterns) c.args.limit c.args.index empty c.if-index-limit.true))) c.put.ensures
 
-pub put-pattern-returns-in-default : goal.put-pattern-returns-in-default
-put-pattern-returns-in-default t c =
+pub put_pattern-returns-in_default : goal.put_pattern-returns-in_default
+put_pattern-returns-in_default t c =
     let q = c.args.q.now in
-    adds_as (ap pattern_text (sym (past_all (pattern_of (env_of q)) (vec_items q.patterns) c.args.limit c.args.index empty c.in-default.ensures))) c.put-in-default.ensures
+    adds_as (ap pattern_text (sym (past_all (pattern_of (env_of q)) (vec_items q.patterns) c.args.limit c.args.index empty c.in_default.ensures))) c.put-in_default.ensures
 
-pub put-pattern-returns-in-Empty : goal.put-pattern-returns-in-Empty
-put-pattern-returns-in-Empty t c = adds_as (pattern_here c.args.q.now c.args.limit c.args.index _ _ c.if-index-limit.false c.in-Some.ensures c.in-Empty.is) c.put-in-Empty.ensures
+pub put_pattern-returns-in-Empty : goal.put_pattern-returns-in-Empty
+put_pattern-returns-in-Empty t c = adds_as (pattern_here c.args.q.now c.args.limit c.args.index _ _ c.if-index-limit.false c.in-Some.ensures c.in-Empty.is) c.put-in-Empty.ensures
 
-pub put-pattern-returns-in-Line : goal.put-pattern-returns-in-Line
-put-pattern-returns-in-Line t c = adds_as (pattern_here c.args.q.now c.args.limit c.args.index _ _ c.if-index-limit.false c.in-Some.ensures c.in-Line.is) c.put-line.ensures
+pub put_pattern-returns-in-Line : goal.put_pattern-returns-in-Line
+put_pattern-returns-in-Line t c = adds_as (pattern_here c.args.q.now c.args.limit c.args.index _ _ c.if-index-limit.false c.in-Some.ensures c.in-Line.is) c.put_line.ensures
 
-pub put-pattern-returns-in-And : goal.put-pattern-returns-in-And
-put-pattern-returns-in-And t c = adds_as (pattern_here c.args.q.now c.args.limit c.args.index _ _ c.if-index-limit.false c.in-Some.ensures c.in-And.is) c.put-both.ensures
+pub put_pattern-returns-in-And : goal.put_pattern-returns-in-And
+put_pattern-returns-in-And t c = adds_as (pattern_here c.args.q.now c.args.limit c.args.index _ _ c.if-index-limit.false c.in-Some.ensures c.in-And.is) c.put_both.ensures
 
-pub put-pattern-returns-in-Union : goal.put-pattern-returns-in-Union
-put-pattern-returns-in-Union t c = adds_as (pattern_here c.args.q.now c.args.limit c.args.index _ _ c.if-index-limit.false c.in-Some.ensures c.in-Union.is) c.put-both-in-Union.ensures
+pub put_pattern-returns-in-Union : goal.put_pattern-returns-in-Union
+put_pattern-returns-in-Union t c = adds_as (pattern_here c.args.q.now c.args.limit c.args.index _ _ c.if-index-limit.false c.in-Some.ensures c.in-Union.is) c.put_both-in-Union.ensures
 
-pub put-pattern-returns-in-Opt : goal.put-pattern-returns-in-Opt
-put-pattern-returns-in-Opt t c = adds_as (pattern_here c.args.q.now c.args.limit c.args.index _ _ c.if-index-limit.false c.in-Some.ensures c.in-Opt.is) c.put-both-in-Opt.ensures
+pub put_pattern-returns-in-Opt : goal.put_pattern-returns-in-Opt
+put_pattern-returns-in-Opt t c = adds_as (pattern_here c.args.q.now c.args.limit c.args.index _ _ c.if-index-limit.false c.in-Some.ensures c.in-Opt.is) c.put_both-in-Opt.ensures

@@ -1,8 +1,8 @@
 use Rattle.std.proofs.Common.{◌+◌, ◌*◌}
 use Rattle.outline.proofs.patterns.+put_both_put_pattern.Given as goal
 
-abbrev pub decreases-put-both : goal.decreases-put-both
-decreases-put-both l = 2 * l.limit + 1
+abbrev pub decreases-put_both : goal.decreases-put_both
+decreases-put_both l = 2 * l.limit + 1
 
-abbrev pub decreases-put-pattern : goal.decreases-put-pattern
-decreases-put-pattern l = 2 * l.limit
+abbrev pub decreases-put_pattern : goal.decreases-put_pattern
+decreases-put_pattern l = 2 * l.limit

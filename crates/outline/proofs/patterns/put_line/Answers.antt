@@ -4,5 +4,5 @@ use Rattle.outline.proofs.patterns.put_line.Goals as goal
 
 pub returns : goal.returns
 returns c =
-    let p = adds_as (path_whole c.args.q.now c.nodes.result c.args.path c.nodes.ensures) c.in-ok-put-path.ensures in
-    then c.in-ok-put.ensures (then c.in-ok-put-end.ensures (then c.in-ok-put-2.ensures (then p (then c.in-ok-put-3.ensures (then c.in-ok-put-end-2.ensures c.put-4.ensures)))))
+    let p = adds_as (path_whole c.args.q.now c.nodes.result c.args.path c.nodes.ensures) c.in_ok-put_path.ensures in
+    then c.in_ok-put.ensures (then c.in_ok-put_end.ensures (then c.in_ok-put-2.ensures (then p (then c.in_ok-put-3.ensures (then c.in_ok-put_end-2.ensures c.put-4.ensures)))))
