@@ -1,5 +1,5 @@
 -- The pairs of a path between ends that may be fixed: their rows, and their weights summed up.
-use Rattle.std.proofs.Common.{◌≡◌, Bool, true, false, List, [], Some, None, Option, sym, refl, ap, ◌∙◌, ap₂}
+use Rattle.std.proofs.Common.{◌≡◌, Bool, true, false, List, Some, None, Option, sym, refl, ap, ◌∙◌, ap₂}
 use mathlib.Core.Path.{fun_ext}
 use Rattle.weights.specs.Scales.{Scale, Fair}
 use Rattle.grammar.specs.Syntax.{Path, inverse, sequence, alternative}

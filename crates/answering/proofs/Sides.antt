@@ -2,7 +2,6 @@
 use Rattle.std.proofs.Common.{◌≡◌, Bool, true, false, cond, ◌⊎◌, List, [], ◌∷◌, ◌++◌, sym, refl, ap, ◌∙◌, subst, ap₂, inl, inr}
 use mathlib.Core.Path.{fun_ext}
 use Rattle.weights.specs.Scales.{Scale, Fair}
-use Rattle.grammar.specs.Syntax.{and}
 use Rattle.semantics.specs.Terms.{Terms, Exact, In}
 use Rattle.semantics.specs.Rows.{Row, merge, compatible}
 use Rattle.semantics.specs.Bags.{Bag, only, join, alone, bare}

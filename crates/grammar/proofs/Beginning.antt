@@ -1,8 +1,8 @@
 -- Where a walk begins: one try settles it.
-use Rattle.std.proofs.Common.{◌≡◌, ℕ, Bool, true, false, ◌&&◌, ◌||◌, ◌⊎◌, sym, refl, ◌∙◌, inl, inr, arith}
+use Rattle.std.proofs.Common.{◌≡◌, ℕ, Bool, true, false, ◌&&◌, ◌||◌, refl, ◌∙◌, inl, inr, arith}
 use lib.Bits.{bit_or}
 use Rattle.terms.specs.Terms.{Term}
-use Rattle.grammar.specs.Syntax.{Path, link, negated, inverse, star, sequence, alternative, and}
+use Rattle.grammar.specs.Syntax.{Path, link, negated, inverse, star, sequence, alternative}
 use Rattle.grammar.specs.Bounded.{Asks}
 use Rattle.grammar.specs.Masks.{member}
 use Rattle.grammar.specs.Walkable.{walkable, FirstPartDecides}

@@ -1,8 +1,8 @@
 -- The laws of bounded questions.
-use Rattle.std.proofs.Common.{◌≡◌, ℕ, zero, suc, Bool, true, false, ◌&&◌, ◌||◌, ◌⊎◌, sym, refl, ap, ◌∙◌, subst, inl, inr, arith}
+use Rattle.std.proofs.Common.{◌≡◌, ℕ, zero, suc, Bool, true, false, ◌&&◌, ◌||◌, sym, refl, ap, ◌∙◌, inl, inr, arith}
 use Rattle.terms.specs.Terms.{Term}
-use Rattle.grammar.specs.Syntax.{Path, link, negated, inverse, star, sequence, alternative, End, constant, variable, Pattern, empty, line, and, union, opt}
-use Rattle.grammar.specs.Bounded.{Vars, none, both, common, just, of_end, sure_line, sure, fixed, raised, raised_vars, BoundedLine, Bounded, Asks, Within, BoundedByMore, Exchanged, and_sides, union_sides, in_and, in_union, in_opt, as_it_was, again, ExchangeKeepsBounds, hop, regrouped, RegroupingCanUnbind}
+use Rattle.grammar.specs.Syntax.{Path, link, negated, inverse, star, sequence, alternative, End, constant, variable, empty, line, and, union, opt}
+use Rattle.grammar.specs.Bounded.{Vars, none, both, sure_line, sure, fixed, raised, raised_vars, BoundedLine, Bounded, Asks, Within, BoundedByMore, Exchanged, and_sides, union_sides, in_and, in_union, in_opt, as_it_was, again, ExchangeKeepsBounds, hop, regrouped, RegroupingCanUnbind}
 
 clash : false ≡ true → ⊥
 clash e = let z : ◌≡◌ {A = ℕ} 0 1 = cc in omega arith

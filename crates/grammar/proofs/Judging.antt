@@ -1,10 +1,10 @@
 -- Judging by masks gives the verdict of the definition.
-use Rattle.std.proofs.Common.{◌≡◌, ℕ, zero, suc, ◌+◌, ◌*◌, ◌^◌, ◌<◌, ◌≤◌, Bool, true, false, ◌&&◌, ◌||◌, eqb, ◌⊎◌, sym, refl, ap, ◌∙◌, inl, inr, pow-suc, arith, eq-eqb, eqb-true}
+use Rattle.std.proofs.Common.{◌≡◌, ℕ, zero, suc, ◌+◌, ◌^◌, ◌<◌, ◌≤◌, Bool, true, ◌&&◌, ◌||◌, eqb, ◌⊎◌, sym, refl, ap, ◌∙◌, inl, inr, pow-suc, arith, eq-eqb, eqb-true}
 use native.Mathlib.Nat.{pow-zero}
-use lib.Bits.{bit_and, bit_or}
+use lib.Bits.{bit_or}
 use Rattle.grammar.specs.Syntax.{End, constant, variable, empty, line, and, union, opt}
 use Rattle.terms.specs.Terms.{Term}
-use Rattle.grammar.specs.Bounded.{Vars, both, common, of_end, sure_line, sure, fixed, Bounded, Asks}
+use Rattle.grammar.specs.Bounded.{both, of_end, sure, Bounded, Asks}
 use Rattle.grammar.specs.Masks.{member}
 use Rattle.grammar.specs.Judged.{end_mask, sure_mask, judged, MaskIsSure, JudgingDecides}
 use Rattle.grammar.proofs.Bounding.{by_same}

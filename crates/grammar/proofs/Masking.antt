@@ -1,6 +1,6 @@
 -- Masks do what sets do.
-use Rattle.std.proofs.Common.{◌≡◌, ℕ, zero, suc, ◌+◌, ◌-◌, ◌*◌, ◌/◌, ◌%◌, ◌^◌, ◌<◌, ◌≤◌, min, max, Bool, true, false, ◌&&◌, ◌||◌, eqb, ◌⊎◌, sym, refl, ap, ◌∙◌, subst, inl, inr, mul_comm, pow-suc, div-one, arith, lit<, eq-eqb, ne_eqb, eqb-true}
-use native.Mathlib.Nat.{pow-zero, zero-div, div-div-eq-div-mul}
+use Rattle.std.proofs.Common.{◌≡◌, ℕ, zero, suc, ◌*◌, ◌/◌, ◌%◌, ◌^◌, ◌<◌, min, max, Bool, true, false, ◌&&◌, ◌||◌, eqb, sym, refl, ap, ◌∙◌, mul_comm, pow-suc, div-one, arith, eq-eqb, ne_eqb, eqb-true}
+use native.Mathlib.Nat.{zero-div, div-div-eq-div-mul}
 use lib.Bits.{bit_and, bit_or, or_shr, and_shr, or_step, and_step}
 use Rattle.grammar.specs.Bounded.{both, common, none, just}
 use Rattle.grammar.specs.Masks.{member}

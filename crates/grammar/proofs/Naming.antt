@@ -1,14 +1,14 @@
 -- Every variable of a question is one of its names.
-use Rattle.std.proofs.Common.{◌≡◌, ℕ, true, List, [], ◌∷◌, length, Some, None, Option, sym, refl, ap, ◌∙◌, subst, ap₂, arith}
+use Rattle.std.proofs.Common.{◌≡◌, List, [], length, Some, None, Option, sym, refl, ap, ◌∙◌, subst, ap₂, arith}
 use Rattle.tokens.specs.Words.{Word}
 use Rattle.tokens.specs.Lexed.{tokens}
-use Rattle.grammar.specs.Syntax.{Path, End, variable, Pattern, empty, line, and, union, opt}
+use Rattle.grammar.specs.Syntax.{variable, line, and, union, opt}
 use Rattle.grammar.specs.Grammar.{Kind, is-question, is-group, is-items, is-item, is-groups, is-unions, is-line, is-end, is-path, is-alternatives, is-sequence, is-steps, is-step, is-suffix, is_base, is-negation, is-members}
 use Rattle.grammar.specs.Grammar.{Tree, whole, braces, no_items, items, a_line, an_option, some_groups, groups, no_unions, unions, ends, end_iri, end_literal, end_name, path, no_alternatives, alternatives, chain, no_steps, steps, forward, backward, once, repeated, predicate, other, brackets, one, several, no_members, members}
 use Rattle.grammar.specs.Grammar.{spell, means, Meaning, Name, Ends, Patterns, joined, or_empty}
 use Rattle.grammar.specs.Limits.{nothing, gather}
-use Rattle.grammar.specs.Reading.{Asked, Question, words}
-use Rattle.grammar.specs.Numbered.{distinct, numbered_end, numbered, named_end, named, asks, Faithful, NumbersAreFaithful}
+use Rattle.grammar.specs.Reading.{words}
+use Rattle.grammar.specs.Numbered.{distinct, numbered_end, numbered, named_end, named, NumbersAreFaithful}
 use Rattle.grammar.proofs.Numbering.{NamesIn, place_at, name_at_lem, gathered_distinct, gathered_few, gathered_all}
 
 -- numbered and named again, a pattern is what it was

@@ -1,5 +1,5 @@
 -- A line is bounded exactly where its path can be walked from the ends that are fixed.
-use Rattle.std.proofs.Common.{◌≡◌, ℕ, zero, suc, Bool, true, false, ◌&&◌, ◌||◌, eqb, ◌⊎◌, sym, refl, ap, ◌∙◌, subst, inl, inr, arith, ne_eqb, eqb-true}
+use Rattle.std.proofs.Common.{◌≡◌, ℕ, suc, Bool, true, false, ◌&&◌, ◌||◌, eqb, ◌⊎◌, sym, refl, ap, ◌∙◌, inl, inr, arith, ne_eqb, eqb-true}
 use Rattle.terms.specs.Terms.{Term}
 use Rattle.grammar.specs.Syntax.{Path, link, negated, inverse, star, sequence, alternative, End, constant, variable}
 use Rattle.grammar.specs.Bounded.{Vars, both, just, of_end, sure_line, fixed, raised, raised_vars, BoundedLine}

@@ -1,5 +1,5 @@
 -- Judging by masks: the sure variables of a pattern as one number, and its verdict by the mask of those that are fixed.
-use Rattle.std.specs.Prelude.{◌≡◌, ℕ, ◌^◌, Bool, true, false, ◌&&◌, ◌||◌, ◌==◌, bit_and, bit_or}
+use Rattle.std.specs.Prelude.{◌≡◌, ℕ, ◌^◌, Bool, true, ◌&&◌, ◌||◌, ◌==◌, bit_and, bit_or}
 use Rattle.grammar.specs.Syntax.{End, constant, variable, Pattern, empty, line, and, union, opt}
 use Rattle.grammar.specs.Bounded.{sure, fixed, Bounded, Asks}
 use Rattle.grammar.specs.Masks.{member}

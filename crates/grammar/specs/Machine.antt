@@ -1,7 +1,7 @@
 -- A machine that predicts each rule of the grammar from the next word. The reader's inner promises speak of it; what a question is does not.
 use Rattle.std.specs.Prelude.{◌≡◌, ℕ, zero, suc, cond, List, [], ◌∷◌, ◌++◌}
 use Rattle.tokens.specs.declared.token.Token.{Token}
-use Rattle.tokens.specs.declared.token.Token.TheVariants.{Iri, Literal, Variable, OpenBrace, CloseBrace, OpenParen, CloseParen, Dot, Bar, Slash, Caret, Star, Bang, Optional, Union, Wrong, End}
+use Rattle.tokens.specs.declared.token.Token.TheVariants.{Iri, Literal, Variable, OpenBrace, CloseBrace, OpenParen, CloseParen, Dot, Bar, Slash, Caret, Star, Bang, Optional, Union, End}
 use Rattle.tokens.specs.Words.{Word, sort, same}
 use Rattle.grammar.specs.Grammar.{Kind, is-question, is-group, is-items, is-item, is-groups, is-unions, is-line, is-end, is-path, is-alternatives, is-sequence, is-steps, is-step, is-suffix, is_base, is-negation, is-members}
 

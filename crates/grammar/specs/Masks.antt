@@ -1,5 +1,5 @@
 -- Sets of variables as masks: a variable is in the set where its bit is set.
-use Rattle.std.specs.Prelude.{ℕ, ◌/◌, ◌%◌, ◌^◌, Bool, ◌==◌}
+use Rattle.std.specs.Prelude.{ℕ, ◌/◌, ◌%◌, ◌^◌, ◌==◌}
 use Rattle.grammar.specs.Bounded.{Vars}
 
 abbrev pub member : ℕ → Vars

@@ -9,7 +9,7 @@ use Rattle.grammar.specs.declared.refusal.Fault.{Fault}
 use Rattle.grammar.specs.declared.refusal.Refusal.{Refusal}
 use Rattle.grammar.specs.declared.refusal.Refusal.TheVariants.{TextTooLong, TooManyNodes, At}
 use Rattle.grammar.specs.Syntax.{nodes}
-use Rattle.grammar.specs.Grammar.{Kind, is-question, Tree, spell, means, Name, Patterns}
+use Rattle.grammar.specs.Grammar.{is-question, Tree, spell, means, Name, Patterns}
 use Rattle.grammar.specs.Limits.{nothing, gather, limit, Clear}
 
 -- what a text asks: its pattern, its variables by first place, its terms in text order

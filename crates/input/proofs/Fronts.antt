@@ -1,8 +1,8 @@
 -- What the first bytes of an input settle of its question.
-use Rattle.std.proofs.Common.{◌≡◌, ℕ, ◌+◌, ◌-◌, ◌<◌, ◌≤◌, ◌⊎◌, List, [], ◌∷◌, ◌++◌, length, take, drop, codes, sym, refl, ap, ◌∙◌, subst, inl, inr, append_assoc, arith}
+use Rattle.std.proofs.Common.{◌≡◌, ℕ, ◌+◌, ◌-◌, ◌<◌, ◌≤◌, ◌⊎◌, List, ◌++◌, length, take, drop, codes, sym, refl, ap, ◌∙◌, subst, inl, inr, append_assoc, arith}
 use lib.Seq.{take-append-add}
 use Rattle.std.proofs.lemmas.Bool.{cases_lt}
-use Rattle.std.proofs.lemmas.List.{take-append-drop, length-append, length-take-le, take_at, take_all, take-take}
+use Rattle.std.proofs.lemmas.List.{take-append-drop, length-append, length-take-le, take_all}
 use Rattle.input.specs.Parting.{Opens, Line, Parted, FrontSettles, FrontSettlesPages}
 use Rattle.input.proofs.Lines.{line_front, one_parting}
 

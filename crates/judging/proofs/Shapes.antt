@@ -1,5 +1,5 @@
 -- Verdicts do not depend on what terms stand for.
-use Rattle.std.proofs.Common.{◌≡◌, ℕ, zero, suc, ◌^◌, ◌<◌, ◌≤◌, Bool, true, false, ◌&&◌, ◌||◌, eqb, ltb, List, length, get_or, Some, None, vec_items, Option, sym, refl, ap, ◌∙◌, subst, ap₂, arith, ltb-false, ltb-true}
+use Rattle.std.proofs.Common.{◌≡◌, ℕ, zero, suc, ◌^◌, ◌<◌, ◌≤◌, Bool, true, false, ◌&&◌, ◌||◌, eqb, ltb, List, length, get_or, Some, None, vec_items, Option, sym, refl, ap, ◌∙◌, ap₂, arith, ltb-false, ltb-true}
 use lib.Bits.{bit_or, bit_and}
 use Rattle.std.proofs.lemmas.List.{get_or_default}
 use Rattle.grammar.specs.Bounded.{fixed}

@@ -1,5 +1,5 @@
 -- Parts of a text: one more, and the first ones.
-use Rattle.std.proofs.Common.{◌≡◌, ℕ, zero, suc, ◌+◌, ◌-◌, ◌<◌, ◌≤◌, Bool, true, false, ltb, List, [], ◌∷◌, ◌++◌, map, length, get_or, take, drop, sym, refl, ap, ◌∙◌, subst, ap₂, arith, length-append, length-drop, take-append-drop, length-take, take_all, get_or-take, take-take, take_at, drop_at, ltb-false, ltb-true}
+use Rattle.std.proofs.Common.{◌≡◌, ℕ, zero, suc, ◌+◌, ◌<◌, ◌≤◌, Bool, true, false, ltb, List, [], ◌∷◌, ◌++◌, map, length, get_or, take, drop, sym, refl, ap, ◌∙◌, subst, ap₂, arith, length-append, length-drop, take-append-drop, length-take, take_all, get_or-take, take-take, take_at, drop_at, ltb-false, ltb-true}
 use lib.Seq.{take-append-le}
 use Rattle.std.proofs.lemmas.List.{drop-append-le, get_or_append_left, get_or_push}
 use Rattle.terms.specs.Terms.{Term}

@@ -1,13 +1,11 @@
 -- A term with its marks, written at the front of a buffer.
-use Rattle.std.proofs.Common.{◌≡◌, ℕ, zero, suc, ◌+◌, ◌-◌, ◌<◌, ◌≤◌, Bool, true, false, cond, leb, List, [], ◌∷◌, ◌++◌, length, get_or, take, drop, set, Some, None, Ok, Err, Option, sym, refl, ap, ◌∙◌, subst, ap₂, append_assoc, add-one, arith, length-append, le-leb}
+use Rattle.std.proofs.Common.{◌≡◌, ℕ, suc, ◌+◌, ◌-◌, ◌<◌, ◌≤◌, true, false, cond, leb, List, [], ◌∷◌, ◌++◌, length, get_or, drop, set, Some, Ok, Err, Option, sym, ap, ◌∙◌, append_assoc, arith, length-append, le-leb}
 use borrow.Author.Tests.{lt-leb}
 use borrow.Rule.Slice.PartMut.{put_mid}
 use Rattle.std.proofs.lemmas.List.{drop_more, set_at}
 use Rattle.terms.specs.Terms.{Term}
-use Rattle.lexicon.specs.declared.unspelled.Unspelled.{Unspelled}
-use Rattle.lexicon.specs.declared.unspelled.Unspelled.TheVariants.{NoSuch, TooShort}
-use Rattle.lexicon.specs.Numbering.{term}
-use Rattle.lexicon.specs.Spelling.{before, behind, spelling, spells, spelled}
+use Rattle.lexicon.specs.declared.unspelled.Unspelled.TheVariants.{TooShort}
+use Rattle.lexicon.specs.Spelling.{behind, spelling, spells, spelled}
 
 pub written : (out x : List ℕ) (b e : ℕ) → length x + 2 ≤ length out → set (put_mid 1 ((length x + 1) - 1) (set out 0 b) x) (length x + 1) e ≡ b ∷ ((x ++ e ∷ []) ++ drop (length x + 2) out)
 written [] x b e h = absurd (omega arith)

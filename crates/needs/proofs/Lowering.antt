@@ -1,11 +1,11 @@
 -- The lowest of what is missing, term by term.
-use Rattle.std.proofs.Common.{◌≡◌, ℕ, zero, suc, ◌+◌, ◌-◌, ◌<◌, ◌≤◌, Bool, true, false, cond, not, ◌&&◌, leb, List, [], ◌∷◌, length, is_some, Some, None, Option, sym, refl, ap, ◌∙◌, subst, ap₂, arith, leb-false, leb-true}
+use Rattle.std.proofs.Common.{◌≡◌, ℕ, ◌+◌, ◌≤◌, Bool, true, false, cond, not, ◌&&◌, leb, List, length, is_some, Some, None, Option, sym, refl, ap, ◌∙◌, ap₂, arith, leb-false, leb-true}
 use Rattle.terms.specs.Terms.{Term}
 use Rattle.lexicon.specs.Numbering.{term_at}
-use Rattle.lexicon.proofs.Numbers.{term_zero, term_past, and_left, and_right, not_true}
+use Rattle.lexicon.proofs.Numbers.{term_zero, term_past, not_true}
 use Rattle.store.specs.State.{State}
 use Rattle.store.specs.Looking.{address_of}
-use Rattle.needs.specs.Needs.{wanted_at, first_where, is_of, before, lower, lower_of, missing, Lowest, LowestTo}
+use Rattle.needs.specs.Needs.{wanted_at, first_where, is_of, lower, lower_of, missing, Lowest, LowestTo}
 use Rattle.needs.proofs.Ordering.{not_itself, goes_on}
 
 clash : {X : Type 0} (b : Bool) → b ≡ true → b ≡ false → X

@@ -1,28 +1,34 @@
 // The front of the input, which is all of it that matters.
-ghost use Rattle.partfind.specs.Asking.{Answer, Settles, places};
+ghost use Rattle.std.specs.Prelude.{◌≤◌, length, IfOk};
+ghost use Rattle.question.specs.Answers.{held};
+ghost use Rattle.partfind.specs.Asking.{Settles};
 
-use crate::declined::Declined;
+use grammar::Refusal;
 use input::Parts;
-use judging::Judged;
-use pages::Pages;
 use question::Draft;
+use std::io;
+use std::io::Read;
 
-// A question has at most 2,048 bytes, the line that parts it from the pages three, and the pages have at most 65,536. One byte more shows a file that is longer.
-pub const ENOUGH: u64 = 67_588;
-
-// Reads and judges the question of an input, of which `front` is the first 67,588 bytes, or all if it has fewer. Tells how many variables are sure.
-pub fn ask(draft: &mut Draft, judged: &mut Judged, front: &[u8]) -> Result<u32, Declined>
-    ensures { Settles front.now (places draft.old judged.old) result (places draft.new judged.new) }
+// Reads until the room is full or the input ends, and says how many bytes came.
+pub fn fill(input: &mut impl Read, room: &mut [u8]) -> io::Result<usize>
+    ensures { IfOk result (λ n. n ≤ length room.new) }
 {
-    let parts = Parts::of(front);
-    settle(draft, judged, parts.question, parts.pages)
+    let mut count = 0;
+    // A pipe may give less than there is room for. Each turn but the last reads a byte or more, so the loop ends.
+    while count < room.len() {
+        let more = input.read(&mut room[count..])?;
+        if more == 0 {
+            break;
+        }
+        count += more;
+    }
+    Ok(count)
 }
 
-fn settle(draft: &mut Draft, judged: &mut Judged, text: &[u8], file: &[u8]) -> Result<u32, Declined>
-    ensures { Answer text.now file.now (places draft.old judged.old) result (places draft.new judged.new) }
+// Reads the question of an input, of which `front` is the first 2,051 bytes, or all if it has fewer.
+pub fn ask(draft: &mut Draft, front: &[u8]) -> Result<(), Refusal>
+    ensures { Settles front.now (held draft.old) result (held draft.new) }
 {
-    draft.read(text)?;
-    let sure = judged.judge(draft)?;
-    let _pages = Pages::new(file)?;
-    Ok(sure)
+    let parts = Parts::of(front);
+    draft.read(parts.question)
 }

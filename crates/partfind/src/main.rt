@@ -1,22 +1,21 @@
-// Reads a question and pages from the standard input, judges the question and measures the pages.
+// Reads a question from the standard input, and tells what was read or how it is refused.
 #![tactic(auto)]
 
-mod declined;
 mod front;
 mod tell;
 
-use judging::Judged;
 use question::Draft;
 use std::io;
-use std::io::Read;
+
+// A question has at most 2,048 bytes. The line that parts it from the pages takes three more.
+const ENOUGH: usize = 2051;
 
 fn main(rt: HostRuntime) -> io::Result<()> {
-    let mut bytes = Vec::new(rt.alloc());
-    rt.stdin().take(front::ENOUGH).read_to_end(&mut bytes)?;
+    let mut room = [0u8; ENOUGH];
+    let count = front::fill(&mut rt.stdin(), &mut room)?;
     let mut draft = Draft::new(rt.alloc())?;
-    let mut judged = Judged::new(rt.alloc())?;
-    match front::ask(&mut draft, &mut judged, bytes.as_slice()) {
-        Ok(sure) => tell::sure(&rt, sure),
-        Err(declined) => tell::declined(&rt, &declined),
+    match front::ask(&mut draft, &room[0..count]) {
+        Ok(()) => tell::question(&rt, &draft),
+        Err(refusal) => tell::refusal(&rt, &refusal),
     }
 }

@@ -1,16 +1,30 @@
-// Prints the answer.
-use crate::declined::Declined;
+// Prints what was read.
+use grammar::Refusal;
+use question::Draft;
 use std::io;
 
-// How many variables of a question are sure.
-pub fn sure(rt: &HostRuntime, count: u32) -> io::Result<()> {
-    println!(rt; "sure {count}")
+// How many nodes a question has, and its variables in the order of their numbers.
+pub fn question(rt: &HostRuntime, draft: &Draft) -> io::Result<()> {
+    println!(rt; "nodes {}", draft.nodes())?;
+    let question = draft.question();
+    for number in 0..question.variables() {
+        if let Some(name) = question.name(number) {
+            variable(rt, name)?;
+        }
+    }
+    Ok(())
+}
+
+fn variable(rt: &HostRuntime, name: &[u8]) -> io::Result<()> {
+    rt.print("?")?;
+    rt.write_all(name)?;
+    rt.print("\n")
 }
 
 // The number of a refusal, and on the standard error where the token begins that is refused, if one is.
-pub fn declined(rt: &HostRuntime, declined: &Declined) -> io::Result<()> {
-    println!(rt; "refused {}", declined.number())?;
-    match declined.offset() {
+pub fn refusal(rt: &HostRuntime, refusal: &Refusal) -> io::Result<()> {
+    println!(rt; "refused {}", refusal.number())?;
+    match refusal.offset() {
         Some(offset) => eprintln!(rt; "at byte {offset}"),
         None => Ok(()),
     }

@@ -1,26 +1,25 @@
 -- What is kept of a word that is within its limits.
-use Rattle.std.proofs.Common.{◌≡◌, ℕ, ◌+◌, ◌<◌, ◌≤◌, Bool, true, false, cond, ◌||◌, ltb, leb, List, [], ◌∷◌, ◌++◌, map, length, Some, None, Ok, Err, vec_items, Option, Result, sym, refl, ap, ◌∙◌, subst, arith, length-append, le-ltb, lt-ltb, le-leb}
+use Rattle.std.proofs.Common.{◌≡◌, ℕ, ◌+◌, ◌<◌, ◌≤◌, false, cond, ltb, List, [], ◌∷◌, ◌++◌, map, length, Some, None, Ok, Err, vec_items, Option, Result, sym, refl, ap, ◌∙◌, subst, arith, le-ltb, lt-ltb, le-leb}
 use borrow.Author.Tests.{lt-leb}
 use lib.ListN.{length-map}
 use Rattle.std.proofs.lemmas.List.{map_push, length_push}
 use Rattle.terms.specs.declared.kind.Kind.{Kind}
 use Rattle.terms.specs.declared.kind.Kind.TheVariants.{Iri, Literal}
-use Rattle.terms.specs.Terms.{Term}
 use Rattle.tokens.specs.declared.token.Token.{Token}
 use Rattle.tokens.specs.declared.token.Lexeme.{Lexeme}
-use Rattle.tokens.specs.Words.{Word, iri, literal, name}
-use Rattle.tokens.specs.Lexed.{said, part}
+use Rattle.tokens.specs.Words.{Word, name}
+use Rattle.tokens.specs.Lexed.{said}
 use Rattle.grammar.specs.declared.refusal.Reason.{Reason}
 use Rattle.grammar.specs.declared.refusal.Reason.TheVariants.{NoQuestion, TooDeep, TooManyVariables, TooLong}
 use Rattle.grammar.specs.Grammar.{Name}
-use Rattle.grammar.specs.Limits.{Seen, after, limit, known, noted, at_most}
+use Rattle.grammar.specs.Limits.{Seen, limit, known, noted, at_most}
 use Rattle.question.specs.declared.span.Span.{Span}
 use Rattle.question.specs.declared.span.TermSpan.{TermSpan}
 use Rattle.question.specs.declared.reader.Reader.{Reader}
 use Rattle.question.specs.Arena.{name_of, term_of}
 use Rattle.question.specs.Views.{seen_of, view, Idle, Stands}
-use Rattle.question.specs.Outcomes.{Numbered, Finds}
-use Rattle.question.specs.Admission.{term_word, Admitted, Over, Admission}
+use Rattle.question.specs.Outcomes.{Finds}
+use Rattle.question.specs.Admission.{term_word, Admission}
 use Rattle.question.proofs.Holding.{stands_last}
 
 pub within : (most n : ℕ) → n ≤ most → at_most most n ≡ None

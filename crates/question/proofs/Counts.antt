@@ -1,5 +1,5 @@
 -- How counts of nodes add up, where the arenas did not fill up and where they did.
-use Rattle.std.proofs.Common.{◌≡◌, ℕ, ◌+◌, ◌<◌, ◌≤◌, Bool, true, false, sym, refl, ap, ◌∙◌, subst, arith}
+use Rattle.std.proofs.Common.{◌≡◌, ℕ, ◌+◌, ◌<◌, ◌≤◌, Bool, true, false, sym, refl, ◌∙◌, arith}
 use Rattle.question.specs.Views.{View, Counted, Idle}
 
 pub clash : true ≡ false → ⊥

@@ -1,9 +1,9 @@
 -- What is held is there: the indices that a new node names.
-use Rattle.std.proofs.Common.{◌≡◌, ℕ, ◌+◌, ◌<◌, ◌≤◌, max, Bool, true, false, ◌⊎◌, List, [], ◌∷◌, ◌++◌, map, length, get_or, Some, None, vec_items, vec_len, Option, sym, refl, ap, ◌∙◌, subst, inl, inr, arith, length-append}
+use Rattle.std.proofs.Common.{◌≡◌, ℕ, ◌<◌, ◌≤◌, false, List, [], ◌∷◌, ◌++◌, length, get_or, Some, None, vec_items, vec_len, Option, sym, ap, ◌∙◌, subst, inl, inr, arith, length-append}
 use lib.ListN.{length-map}
 use Rattle.std.proofs.lemmas.List.{get_or_append_left, get_or_push, get_or_past, length_push}
 use Rattle.std.proofs.str.Laws.{order}
-use Rattle.grammar.specs.Syntax.{negated, empty}
+use Rattle.grammar.specs.Syntax.{negated}
 use Rattle.tokens.specs.declared.token.Token.{Token}
 use Rattle.tokens.specs.declared.token.Token.TheVariants.{Iri, Dot}
 use Rattle.grammar.specs.Grammar.{Kind, is-path, means, iri_term, Paths, Patterns}
@@ -12,11 +12,11 @@ use Rattle.question.specs.declared.node.End.{End}
 use Rattle.question.specs.declared.reader.Reader.{Reader}
 use Rattle.question.specs.declared.node.PathNode.TheVariants as path
 use Rattle.question.specs.declared.node.PatternNode.TheVariants as pattern
-use Rattle.question.specs.Arena.{name_of, term_of, path_of, pattern_of, paths_of, patterns_of}
-use Rattle.question.specs.Views.{View, view, seen_of, Passes, Kept, Went, Stands, Sees, HeldPath, HeldPattern}
+use Rattle.question.specs.Arena.{name_of, path_of, pattern_of}
+use Rattle.question.specs.Views.{View, view, seen_of, Passes, Kept, Went, Sees, HeldPath, HeldPattern}
 use Rattle.question.specs.Outcomes.{HeldLeft, Took, ReadEnd, Emptied}
 use Rattle.question.specs.Asking.{env}
-use Rattle.question.specs.Within.{PathFits, PatternFits, PathThere, PatternThere, LeftThere}
+use Rattle.question.specs.Within.{PathFits, PatternFits, PatternThere, LeftThere}
 use Rattle.question.proofs.Holding.{grow_length, passed_names, passed_length, terms_length, path_stays, Onward, onward_then}
 use Rattle.question.proofs.PathParts.{PathDone, took_number, took_onward, read_onward}
 

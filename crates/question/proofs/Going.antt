@@ -1,14 +1,13 @@
 -- From one state of the reader to the next, and how a fault in a part is a fault of the whole.
-use Rattle.std.proofs.Common.{◌≡◌, ℕ, ◌+◌, ◌<◌, ◌≤◌, Bool, true, false, List, [], ◌∷◌, ◌++◌, map, sym, refl, ap, ◌∙◌, subst, append_assoc, append-nil, arith}
+use Rattle.std.proofs.Common.{◌≡◌, ◌≤◌, List, [], ◌∷◌, ◌++◌, sym, refl, ap, ◌∙◌, subst, append_assoc, append-nil, arith}
 use mathlib.Core.List.{map-append}
 use Rattle.tokens.specs.Words.{Word}
 use Rattle.tokens.specs.Lexed.{Spot}
-use Rattle.grammar.specs.declared.refusal.Reason.{Reason}
 use Rattle.grammar.specs.declared.refusal.Fault.{Fault}
 use Rattle.grammar.specs.Grammar.{Kind}
-use Rattle.grammar.specs.Limits.{Seen, after, gather, limit, Clear}
+use Rattle.grammar.specs.Limits.{Seen, after, gather, Clear}
 use Rattle.grammar.specs.Reading.{words}
-use Rattle.grammar.specs.Machine.{Symbol, the, a, parts, lead, Reaches}
+use Rattle.grammar.specs.Machine.{Symbol, a, parts, lead}
 use Rattle.grammar.proofs.Moves.{reach_stay, reach_then, reach_open}
 use Rattle.question.specs.Views.{View, Passes, Grows, Kept, Went, Stopped, Failed, Idle}
 

@@ -1,18 +1,15 @@
 -- What the arenas hold stays as they grow, and what a new node stands for.
-use Rattle.std.proofs.Common.{◌≡◌, ℕ, zero, suc, ◌+◌, ◌<◌, ◌≤◌, Bool, true, false, cond, List, [], ◌∷◌, ◌++◌, map, length, get_or, vec_items, vec_len, sym, refl, ap, ◌∙◌, subst, append_assoc, append-nil, arith, length-append}
+use Rattle.std.proofs.Common.{◌≡◌, ℕ, ◌+◌, ◌≤◌, Bool, true, false, cond, List, [], ◌∷◌, ◌++◌, length, vec_items, vec_len, sym, refl, ap, ◌∙◌, subst, arith, length-append}
 use lib.ListN.{length-map}
 use Rattle.std.proofs.lemmas.List.{get_or_append_left, get_or_push, length_push}
-use Rattle.terms.specs.Terms.{Term}
 use Rattle.tokens.specs.Words.{Word, iri, literal, name, open-brace, close-brace, open-paren, close-paren, dot, bar, slash, caret, star, bang, optional, union, wrong, end}
 use Rattle.grammar.specs.Grammar.{Name, Ends, Paths, Patterns, iri_term, literal_term}
-use Rattle.grammar.specs.Limits.{Seen, after, gather, noted, known}
+use Rattle.grammar.specs.Limits.{Seen, after, gather, known}
 use Rattle.grammar.specs.Reading.{words}
 use Rattle.question.specs.declared.reader.Reader.{Reader}
-use Rattle.question.specs.declared.node.PathNode.{PathNode}
-use Rattle.question.specs.declared.node.PatternNode.{PatternNode}
 use Rattle.question.specs.declared.node.End.{End}
-use Rattle.question.specs.Arena.{term_of, grow, up_from, path_at, pattern_at, path_of, pattern_of, Env, paths_of, patterns_of, end_of}
-use Rattle.question.specs.Views.{View, seen_of, Passes, Grows, Kept, Went, Stands, Fits, Sees, HeldPath, HeldPattern, HeldEnd}
+use Rattle.question.specs.Arena.{term_of, grow, path_of, pattern_of, Env}
+use Rattle.question.specs.Views.{View, seen_of, Passes, Grows, Kept, Stands, Fits, Sees, HeldPath, HeldPattern, HeldEnd}
 use Rattle.question.proofs.Going.{grows_stay, grows_then}
 
 -- ---- lists that grow

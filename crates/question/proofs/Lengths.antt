@@ -1,9 +1,9 @@
 -- An item has a word at least.
-use Rattle.std.proofs.Common.{◌≡◌, ℕ, ◌+◌, ◌<◌, ◌≤◌, List, [], ◌∷◌, length, sym, ap, ◌∙◌, arith}
+use Rattle.std.proofs.Common.{◌≡◌, ◌<◌, ◌≤◌, List, ◌∷◌, length, ap, arith}
 use lib.ListN.{length-map}
 use Rattle.tokens.specs.Words.{Word, open-brace, close-brace, dot, open-paren, close-paren, iri, bar}
 use Rattle.tokens.specs.Lexed.{Spot}
-use Rattle.grammar.specs.Grammar.{Kind, is-group, is-item, is-line, is-end, Tree, whole, braces, no_items, items, a_line, an_option, some_groups, groups, no_unions, unions, ends, end_iri, end_literal, end_name, path, no_alternatives, alternatives, chain, no_steps, steps, forward, backward, once, repeated, predicate, other, brackets, one, several, no_members, members, spell}
+use Rattle.grammar.specs.Grammar.{Kind, is-group, is-item, is-line, Tree, whole, braces, no_items, items, a_line, an_option, some_groups, groups, no_unions, unions, ends, end_iri, end_literal, end_name, path, no_alternatives, alternatives, chain, no_steps, steps, forward, backward, once, repeated, predicate, other, brackets, one, several, no_members, members, spell}
 use Rattle.grammar.specs.Reading.{words}
 
 longer : {k : Kind} (t : Tree k) (w : List Word) → length w ≤ length (spell t w)

@@ -1,23 +1,23 @@
 -- What the reader of a path answers, from what its parts answered.
-use Rattle.std.proofs.Common.{◌≡◌, ℕ, zero, suc, ◌+◌, ◌-◌, ◌<◌, ◌≤◌, Bool, true, false, cond, List, [], ◌∷◌, ◌++◌, length, Ok, Err, Result, sym, refl, ap, ◌∙◌, subst, append_assoc, append-nil, arith, length-append}
+use Rattle.std.proofs.Common.{◌≡◌, ℕ, ◌+◌, ◌-◌, ◌≤◌, false, cond, List, [], ◌∷◌, ◌++◌, length, Ok, Err, Result, sym, refl, ap, ◌∙◌, subst, append_assoc, append-nil, arith, length-append}
 use Rattle.terms.specs.Terms.{Term}
 use Rattle.tokens.specs.declared.token.Token.{Token}
-use Rattle.tokens.specs.declared.token.Token.TheVariants.{Iri, OpenParen, CloseParen, Bar, Slash, Caret, Star, Bang}
-use Rattle.tokens.specs.Words.{Word, sort, content, saying, same, iri}
+use Rattle.tokens.specs.declared.token.Token.TheVariants.{Iri, OpenParen, CloseParen, Bar, Caret, Star, Bang}
+use Rattle.tokens.specs.Words.{Word, content, saying, same, iri}
 use Rattle.grammar.specs.declared.refusal.Fault.{Fault}
-use Rattle.grammar.specs.Syntax.{path_nodes, link, negated, inverse, star, sequence, alternative}
-use Rattle.grammar.specs.Grammar.{Kind, is-path, is-alternatives, is-sequence, is-steps, is-step, is-suffix, is_base, is-negation, is-members, Tree, path, no_alternatives, alternatives, chain, no_steps, steps, forward, backward, once, repeated, predicate, other, brackets, one, several, no_members, members, spell, means, Paths, iri_term}
-use Rattle.grammar.specs.Limits.{Seen, after}
+use Rattle.grammar.specs.Syntax.{path_nodes, negated}
+use Rattle.grammar.specs.Grammar.{Kind, is-path, is-step, is-suffix, is_base, is-negation, is-members, Tree, forward, backward, once, repeated, predicate, other, brackets, one, several, no_members, members, spell, means, Paths, iri_term}
+use Rattle.grammar.specs.Limits.{after}
 use Rattle.grammar.specs.Reading.{words}
-use Rattle.grammar.specs.Machine.{Symbol, the, a, parts, lead}
+use Rattle.grammar.specs.Machine.{Symbol, the, a, lead}
 use Rattle.grammar.proofs.Moves.{differ, same_refl, says_is}
 use Rattle.question.specs.declared.node.PathNode.TheVariants as node
-use Rattle.question.specs.Views.{View, Went, Kept, Counted, Idle, Failed, Stands, HeldPath}
+use Rattle.question.specs.Views.{View, Went, Counted, Idle, Failed, HeldPath}
 use Rattle.question.specs.Outcomes.{Outcome, Numbered, Took, Read, PathRead, ReadMembers, ReadSuffix, PlacedPath}
 use Rattle.question.proofs.Counts.{counted_idle, counted_then, counted_beside, counted_as, counted_both}
 use Rattle.question.proofs.Going.{idle_stay, idle_then, went_stay, went_then, went_on, went_open, went_into, failed_in}
-use Rattle.question.proofs.Holding.{Onward, onward, onward_then, path_stays}
-use Rattle.question.proofs.Placing.{went_path, onward_path, link_placed, inverse_placed, star_placed, sequence_placed, alternative_placed, negated_placed}
+use Rattle.question.proofs.Holding.{Onward, onward, path_stays}
+use Rattle.question.proofs.Placing.{went_path, link_placed, inverse_placed, star_placed, negated_placed}
 
 -- ---- which way the next word points
 

@@ -1,22 +1,22 @@
 -- What the reader of a pattern answers, from what its parts answered.
-use Rattle.std.proofs.Common.{◌≡◌, ℕ, ◌+◌, ◌<◌, ◌≤◌, Bool, true, false, cond, ◌||◌, List, [], ◌∷◌, ◌++◌, length, Some, None, Option, sym, refl, ap, ◌∙◌, subst, arith}
+use Rattle.std.proofs.Common.{◌≡◌, ℕ, ◌+◌, ◌≤◌, Bool, true, false, cond, ◌||◌, List, [], ◌∷◌, Some, None, Option, sym, refl, ap, ◌∙◌, subst, arith}
 use Rattle.tokens.specs.declared.token.Token.{Token}
 use Rattle.tokens.specs.declared.token.Token.TheVariants.{Iri, Literal, Variable, OpenBrace, CloseBrace, Dot, Optional}
 use Rattle.tokens.specs.Words.{Word, content, saying, same}
 use Rattle.grammar.specs.declared.refusal.Fault.{Fault}
-use Rattle.grammar.specs.Syntax.{path_nodes, nodes, constant, variable, empty}
-use Rattle.grammar.specs.Grammar.{Kind, is-group, is-items, is-item, is-groups, is-line, is-end, is-path, Tree, braces, no_items, items, a_line, an_option, some_groups, ends, end_iri, end_literal, end_name, spell, means, joined, or_empty, Name, Ends, Paths, Patterns, iri_term, literal_term}
+use Rattle.grammar.specs.Syntax.{nodes, constant, variable, empty}
+use Rattle.grammar.specs.Grammar.{Kind, is-group, is-items, is-item, is-groups, is-line, is-end, is-path, Tree, braces, no_items, items, a_line, an_option, some_groups, ends, end_iri, end_literal, end_name, spell, means, joined, or_empty, Patterns, iri_term, literal_term}
 use Rattle.grammar.specs.Reading.{words}
 use Rattle.grammar.specs.Machine.{Symbol, the, a, parts, lead}
 use Rattle.question.specs.declared.node.End.{End}
 use Rattle.question.specs.declared.node.End.TheVariants as end
 use Rattle.question.specs.declared.node.PatternNode.TheVariants as node
-use Rattle.question.specs.Views.{View, Went, Counted, Idle, Failed, HeldPath, HeldPattern, HeldEnd}
+use Rattle.question.specs.Views.{View, Went, Counted, Failed, HeldPattern}
 use Rattle.question.specs.Outcomes.{Took, Read, ReadEnd, ReadItem, ReadItems, HeldLeft, Alike, left_nodes, PlacedPattern, Emptied, Joined, begins_item}
 use Rattle.question.proofs.Counts.{counted_idle, counted_then, counted_beside, counted_as, counted_both}
 use Rattle.question.proofs.Going.{idle_stay, idle_then, went_stay, went_then, went_on, went_open, went_into, failed_in}
-use Rattle.question.proofs.Holding.{Onward, onward, onward_then, path_stays, pattern_stays, end_stays}
-use Rattle.question.proofs.Placing.{went_pattern, onward_pattern, empty_placed, line_placed, and_placed, opt_placed}
+use Rattle.question.proofs.Holding.{Onward, onward_then, path_stays, pattern_stays, end_stays}
+use Rattle.question.proofs.Placing.{went_pattern, empty_placed, line_placed, and_placed, opt_placed}
 use Rattle.question.proofs.PathParts.{this_way, other_way, took_reads, took_number, took_onward, read_onward, counted_after, counted_before, PathDone}
 
 abbrev pub PatternDone : (k : Kind) → (Tree k → Patterns) → View → View → ℕ → Type 0

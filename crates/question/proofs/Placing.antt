@@ -1,9 +1,9 @@
 -- A node more in an arena: nothing was read, and the new node stands for what its parts stand for.
-use Rattle.std.proofs.Common.{◌≡◌, ℕ, zero, suc, ◌+◌, ◌-◌, ◌<◌, ◌≤◌, Bool, true, false, List, [], ◌∷◌, ◌++◌, map, length, get_or, sym, refl, ap, ◌∙◌, subst, append_assoc, append-nil, arith, length-append}
-use Rattle.std.proofs.lemmas.List.{get_or-append-add, get_or_append_left}
+use Rattle.std.proofs.Common.{◌≡◌, ℕ, ◌+◌, false, List, [], ◌∷◌, ◌++◌, map, length, get_or, sym, refl, ap, ◌∙◌, subst, append_assoc, append-nil, arith, length-append}
+use Rattle.std.proofs.lemmas.List.{get_or-append-add}
 use Rattle.terms.specs.Terms.{Term}
 use Rattle.grammar.specs.Syntax.{link, negated, inverse, star, sequence, alternative, line, and, union, opt, empty}
-use Rattle.grammar.specs.Grammar.{Name, Ends, Paths, Patterns}
+use Rattle.grammar.specs.Grammar.{Ends, Paths, Patterns}
 use Rattle.grammar.specs.Reading.{words}
 use Rattle.grammar.specs.Machine.{Symbol, Reaches}
 use Rattle.grammar.proofs.Moves.{reach_stay}
@@ -12,11 +12,10 @@ use Rattle.question.specs.declared.node.PathNode.TheVariants as path
 use Rattle.question.specs.declared.node.PatternNode.{PatternNode}
 use Rattle.question.specs.declared.node.PatternNode.TheVariants as pattern
 use Rattle.question.specs.declared.node.End.{End}
-use Rattle.question.specs.Arena.{grow, up_from, path_at, pattern_at, path_of, pattern_of, Env, paths_of, patterns_of, end_of}
-use Rattle.question.specs.Views.{View, Passes, Grows, Kept, Went, Counted, Stands, Fits, Sees, HeldPath, HeldPattern, HeldEnd}
+use Rattle.question.specs.Arena.{up_from, path_at, pattern_at, path_of, pattern_of, Env, paths_of, patterns_of}
+use Rattle.question.specs.Views.{View, Grows, Kept, Went, Stands, Fits, Sees, HeldPath, HeldPattern, HeldEnd}
 use Rattle.question.specs.Outcomes.{Placed, PlacedPath, PlacedPattern}
-use Rattle.question.proofs.Going.{grows_stay}
-use Rattle.question.proofs.Holding.{stands_more, stands_new, grown, Onward, onward, sees_before}
+use Rattle.question.proofs.Holding.{stands_new, Onward, onward, sees_before}
 
 same_grows : {X : Type 0} {xs ys : List X} → ys ≡ xs → Grows xs ys
 same_grows {X} {xs} e = ([], e ∙ sym (append-nil xs))

@@ -1,5 +1,5 @@
 -- What stands at a number of a question: a node means what it says of the nodes at the numbers that it names.
-use Rattle.std.proofs.Common.{◌≡◌, ℕ, ◌+◌, ◌<◌, ◌≤◌, max, List, [], ◌∷◌, ◌++◌, length, get_or, take, drop, Some, None, vec_items, sym, refl, ap, ◌∙◌, ap₂, arith}
+use Rattle.std.proofs.Common.{◌≡◌, ℕ, ◌+◌, ◌<◌, ◌≤◌, List, [], ◌∷◌, ◌++◌, length, get_or, take, drop, Some, vec_items, sym, refl, ap, ◌∙◌, ap₂, arith}
 use Rattle.std.proofs.lemmas.List.{length-take-le, length-take, take-take, take-append-drop, take_more, take_all, get_or_past, get_or_push, get_or_append_left, length_push}
 use Rattle.grammar.specs.Syntax.{negated, inverse, star, sequence, alternative, empty, and, union, opt}
 use Rattle.question.specs.declared.question.Question.{Question}

@@ -1,20 +1,19 @@
 -- One token is passed, or it is at fault.
-use Rattle.std.proofs.Common.{◌≡◌, ℕ, ◌+◌, ◌<◌, ◌≤◌, Bool, true, false, cond, List, [], ◌∷◌, ◌++◌, length, Some, None, Ok, Err, vec_items, Result, sym, refl, ap, ◌∙◌, subst, arith}
+use Rattle.std.proofs.Common.{◌≡◌, ℕ, ◌+◌, ◌<◌, ◌≤◌, true, false, cond, List, [], ◌∷◌, length, Some, Ok, vec_items, sym, refl, ap, ◌∙◌, subst, arith}
 use Rattle.tokens.specs.declared.token.Token.{Token}
 use Rattle.tokens.specs.declared.token.Token.TheVariants.{Iri, Literal, Variable, OpenBrace, CloseBrace, OpenParen, CloseParen, Dot, Bar, Slash, Caret, Star, Bang, Optional, Union, Wrong, End}
 use Rattle.tokens.specs.declared.token.Lexeme.{Lexeme}
 use Rattle.tokens.specs.Words.{Word, sort, saying, same, end}
-use Rattle.tokens.specs.Lexed.{Spot, said, final, put, ahead, tokens_from, First, part, inner}
+use Rattle.tokens.specs.Lexed.{said, final, ahead, tokens_from, First, part, inner}
 use Rattle.grammar.specs.declared.refusal.Reason.{Reason}
 use Rattle.grammar.specs.declared.refusal.Reason.TheVariants.{NoQuestion, TooDeep, TooManyVariables, TooLong}
-use Rattle.grammar.specs.declared.refusal.Fault.{Fault}
-use Rattle.grammar.specs.Limits.{Seen, after, gather, limit, Clear}
+use Rattle.grammar.specs.Limits.{Seen, limit}
 use Rattle.grammar.specs.Reading.{words}
-use Rattle.grammar.specs.Machine.{Symbol, the, a, Reaches}
+use Rattle.grammar.specs.Machine.{the, Reaches}
 use Rattle.grammar.proofs.Moves.{reach_stay, reach_take, same_is, same_refl, differ}
 use Rattle.question.specs.declared.reader.Reader.{Reader}
-use Rattle.question.specs.Views.{View, seen_of, view, Ready, Same, Passes, Went, Idle, Because, Failed}
-use Rattle.question.specs.Outcomes.{Outcome, Took, Takes, Numbered}
+use Rattle.question.specs.Views.{seen_of, view, Ready, Same, Idle, Because, Failed}
+use Rattle.question.specs.Outcomes.{Outcome, Took}
 use Rattle.question.specs.Admission.{Admitted, Over}
 use Rattle.question.proofs.Counts.{clash}
 use Rattle.question.proofs.Going.{kept_idle}

@@ -1,30 +1,26 @@
 -- From what the reader of a group answered to the verdict on a whole text.
-use Rattle.std.proofs.Common.{◌≡◌, ℕ, ◌+◌, ◌<◌, ◌≤◌, Bool, true, false, cond, List, [], ◌∷◌, ◌++◌, length, sym, refl, ap, ◌∙◌, subst, arith}
+use Rattle.std.proofs.Common.{◌≡◌, ℕ, ◌<◌, ◌≤◌, true, false, List, [], ◌∷◌, ◌++◌, length, sym, refl, ap, ◌∙◌, subst, arith}
 use Rattle.tokens.specs.declared.token.Token.{Token}
 use Rattle.tokens.specs.declared.token.Token.TheVariants.{End}
-use Rattle.tokens.specs.declared.token.Lexeme.{Lexeme}
-use Rattle.tokens.specs.Words.{Word, same, end}
-use Rattle.tokens.specs.Lexed.{Spot, said, final, tokens_from, ahead, tokens}
+use Rattle.tokens.specs.Words.{Word, end}
+use Rattle.tokens.specs.Lexed.{tokens}
 use Rattle.grammar.specs.declared.refusal.Reason.{Reason}
 use Rattle.grammar.specs.declared.refusal.Reason.TheVariants.{NoQuestion, TooDeep, TooManyVariables, TooLong}
 use Rattle.grammar.specs.declared.refusal.Fault.{Fault}
 use Rattle.grammar.specs.Syntax.{nodes, empty}
-use Rattle.grammar.specs.Grammar.{Kind, is-question, is-group, Tree, whole, spell, means, iri_term}
-use Rattle.grammar.specs.Limits.{Seen, nothing, gather, limit, Clear}
+use Rattle.grammar.specs.Grammar.{is-question, is-group, Tree, whole, spell, means}
+use Rattle.grammar.specs.Limits.{nothing, gather, Clear}
 use Rattle.grammar.specs.Reading.{words, Lawful, Begins, Refuses, Faulty}
 use Rattle.grammar.specs.Reading as reading
 use Rattle.grammar.specs.Machine.{Symbol, the, a, Reaches}
-use Rattle.grammar.proofs.Moves.{same_is}
 use Rattle.grammar.proofs.Prefixes.{viable_prefix, going_prefix, dead_prefix}
 use Rattle.question.specs.declared.question.Question.{Question}
 use Rattle.question.specs.declared.reader.Reader.{Reader}
-use Rattle.question.specs.Views.{View, view, seen_of, Went, Passes, Failed, Because, Stopped, Sees}
-use Rattle.question.specs.Answers.{Fresh}
+use Rattle.question.specs.Views.{View, view, Went, Failed, Because}
 use Rattle.question.specs.Asking.{env, asked_at, asked}
 use Rattle.question.proofs.Going.{words-++, clear_on, gathers_on, went_open, went_on, failed_in}
 use Rattle.question.proofs.Fitting.{sees}
 use Rattle.question.proofs.PatternParts.{PatternDone}
-use Rattle.question.proofs.Taking.{said_end}
 
 -- ---- a fault
 

@@ -10,7 +10,7 @@ use Rattle.grammar.specs.Reading as reading
 use Rattle.question.specs.declared.reader.Reader.{Reader}
 use Rattle.question.specs.declared.draft.Draft.{Draft}
 use Rattle.question.specs.Asking.{asked}
-use Rattle.question.specs.Views.{View, view, Ready, Stands}
+use Rattle.question.specs.Views.{view, Ready, Stands}
 
 -- the question that a draft holds
 abbrev pub held : Draft → Asked

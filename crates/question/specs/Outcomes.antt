@@ -1,12 +1,11 @@
 -- What each function of the reader answers: a tree of its kind was read, or it could not be.
-use Rattle.std.specs.Prelude.{◌≡◌, ℕ, ◌+◌, ◌<◌, ◌≤◌, Bool, true, false, ◌||◌, List, [], ◌∷◌, ◌++◌, length, Some, None, Option, Result, MatchResult}
-use Rattle.terms.specs.Terms.{Term}
+use Rattle.std.specs.Prelude.{◌≡◌, ℕ, ◌<◌, ◌≤◌, Bool, true, false, ◌||◌, List, [], ◌∷◌, ◌++◌, length, Some, None, Option, Result, MatchResult}
 use Rattle.tokens.specs.declared.token.Token.{Token}
 use Rattle.tokens.specs.declared.token.Token.TheVariants as token
 use Rattle.tokens.specs.Words.{Word, sort, same, iri, literal, name, open-brace, close-brace, open-paren, close-paren, dot, bar, slash, caret, star, bang, optional, union, wrong, end}
 use Rattle.grammar.specs.declared.refusal.Fault.{Fault}
 use Rattle.grammar.specs.Syntax.{path_nodes, nodes}
-use Rattle.grammar.specs.Grammar.{Kind, is-suffix, is-members, is-end, is-item, is-items, Tree, spell, means, Name, Ends, Paths, Patterns, iri_term, literal_term}
+use Rattle.grammar.specs.Grammar.{Kind, is-suffix, is-members, is-end, is-item, is-items, Tree, spell, means, Name, Paths, Patterns, iri_term, literal_term}
 use Rattle.grammar.specs.Limits.{Seen, after, known}
 use Rattle.grammar.specs.Reading.{words}
 use Rattle.grammar.specs.Machine.{Symbol, the, a}
@@ -15,7 +14,7 @@ use Rattle.question.specs.declared.node.PathNode.{PathNode}
 use Rattle.question.specs.declared.node.PatternNode.{PatternNode}
 use Rattle.question.specs.declared.node.PatternNode.TheVariants.{Empty, And}
 use Rattle.question.specs.Behind.{end_terms, end_names}
-use Rattle.question.specs.Views.{View, Went, Kept, Counted, Idle, Failed, Stands, HeldPath, HeldPattern, HeldEnd}
+use Rattle.question.specs.Views.{View, Went, Counted, Idle, Failed, Stands, HeldPath, HeldPattern, HeldEnd}
 
 -- it was read, or the symbol failed
 pub record Outcome {X : Type 0} (x : Symbol) (from : View) (Good : X → Type 0) (r : Result X Fault) : Type 0 where

@@ -1,14 +1,13 @@
 -- What the reader's functions promise, in terms of a reader's state: how far it has come, what it has built.
-use Rattle.std.specs.Prelude.{◌≡◌, ℕ, ◌+◌, ◌<◌, ◌≤◌, Bool, true, false, List, [], ◌∷◌, ◌++◌, map, length, Some, vec_items, slice_index_or}
+use Rattle.std.specs.Prelude.{◌≡◌, ℕ, ◌+◌, ◌<◌, ◌≤◌, Bool, true, false, List, ◌∷◌, ◌++◌, map, length, Some, vec_items, slice_index_or}
 use Rattle.tokens.specs.declared.token.Token.{Token}
-use Rattle.tokens.specs.declared.token.Lexeme.{Lexeme}
 use Rattle.tokens.specs.Words.{Word, sort, same}
 use Rattle.tokens.specs.Lexed.{Spot, ahead, said, final}
 use Rattle.grammar.specs.declared.refusal.Reason.{Reason}
 use Rattle.grammar.specs.declared.refusal.Reason.TheVariants.{NoQuestion, TooDeep, TooManyVariables, TooLong}
 use Rattle.grammar.specs.declared.refusal.Fault.{Fault}
-use Rattle.grammar.specs.Grammar.{Name, Ends, Paths, Patterns}
-use Rattle.grammar.specs.Limits.{Seen, after, gather, limit, Clear}
+use Rattle.grammar.specs.Grammar.{Ends, Paths, Patterns}
+use Rattle.grammar.specs.Limits.{Seen, gather, limit, Clear}
 use Rattle.grammar.specs.Reading.{words}
 use Rattle.grammar.specs.Machine.{Symbol, the, Reaches}
 use Rattle.question.specs.declared.node.End.{End}

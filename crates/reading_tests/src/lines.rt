@@ -17,16 +17,17 @@ pub fn spell(parts: Repeat, out: &mut Vec<u8>) -> Result<(), AllocError> {
     out.extend_from_slice(tail.as_bytes())
 }
 
-// Reading a text gives this line.
+// Reading a text gives this line. The note says which text it was.
 pub fn check_line(
     rt: &impl Abort,
     draft: &mut Draft,
     text: &[u8],
     line: &[u8],
     out: &mut Vec<u8>,
+    note: &str,
 ) -> Result<(), Fail> {
     out.clear();
     write_reading(draft, text, out)?;
-    assert_eq!(rt; out.as_slice(), line);
+    assert_eq!(rt; out.as_slice(), line, "{note}");
     Ok(())
 }

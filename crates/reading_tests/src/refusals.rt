@@ -161,11 +161,12 @@ fn check_refused(
     text: &[u8],
     line: &str,
     out: &mut Vec<u8>,
+    note: &str,
 ) -> Result<(), Fail> {
-    check_line(rt, draft, text, line.as_bytes(), out)?;
+    check_line(rt, draft, text, line.as_bytes(), out, note)?;
     out.clear();
     write_question(draft, out)?;
-    assert_eq!(rt; out.as_slice(), KEPT.as_bytes());
+    assert_eq!(rt; out.as_slice(), KEPT.as_bytes(), "{note}");
     Ok(())
 }
 
@@ -174,9 +175,9 @@ fn refusals(rt: HostRuntime) -> Result<(), Fail> {
     let heap = rt.alloc();
     let mut draft = Draft::new(heap)?;
     let mut out = Vec::new(heap);
-    check_line(&rt, &mut draft, FIRST.as_bytes(), KEPT.as_bytes(), &mut out)?;
+    check_line(&rt, &mut draft, FIRST.as_bytes(), KEPT.as_bytes(), &mut out, FIRST)?;
     for (text, line) in REFUSED.iter() {
-        check_refused(&rt, &mut draft, text.as_bytes(), line, &mut out).note(*text)?;
+        check_refused(&rt, &mut draft, text.as_bytes(), line, &mut out, *text)?;
     }
     Ok(())
 }
@@ -187,13 +188,12 @@ fn limits_passed(rt: HostRuntime) -> Result<(), Fail> {
     let mut draft = Draft::new(heap)?;
     let mut text = Vec::new(heap);
     let mut out = Vec::new(heap);
-    check_line(&rt, &mut draft, FIRST.as_bytes(), KEPT.as_bytes(), &mut out)?;
+    check_line(&rt, &mut draft, FIRST.as_bytes(), KEPT.as_bytes(), &mut out, FIRST)?;
     for (parts, line) in REFUSED_LONG.iter() {
         spell(*parts, &mut text)?;
         let (head, piece, count, tail) = *parts;
-        check_refused(&rt, &mut draft, text.as_slice(), line, &mut out).note(format_args!(
-            "{head}, {piece} {count} times, {tail}"
-        ))?;
+        let note = format!(in heap; "{head}, {piece} {count} times, {tail}")?;
+        check_refused(&rt, &mut draft, text.as_slice(), line, &mut out, note.as_str())?;
     }
     Ok(())
 }
@@ -209,9 +209,8 @@ fn limits_met(rt: HostRuntime) -> Result<(), Fail> {
         spell(*parts, &mut text)?;
         spell(*wanted, &mut line)?;
         let (head, piece, count, tail) = *parts;
-        check_line(&rt, &mut draft, text.as_slice(), line.as_slice(), &mut out).note(format_args!(
-            "{head}, {piece} {count} times, {tail}"
-        ))?;
+        let note = format!(in heap; "{head}, {piece} {count} times, {tail}")?;
+        check_line(&rt, &mut draft, text.as_slice(), line.as_slice(), &mut out, note.as_str())?;
     }
     Ok(())
 }

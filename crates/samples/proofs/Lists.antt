@@ -1,10 +1,10 @@
 -- The terms of a list of pages, as a universe.
-use Rattle.std.proofs.Common.{◌≡◌, Bool, true, false, cond, ◌&&◌, ◌⊎◌, List, [], ◌∷◌, sym, refl, ap, ◌∙◌, subst, inl, inr}
+use Rattle.std.proofs.Common.{◌≡◌, Bool, true, false, cond, ◌&&◌, List, [], ◌∷◌, ap, ◌∙◌, inl, inr}
 use Rattle.std.proofs.lemmas.Bool.{and_parts}
 use Rattle.terms.specs.Terms.{Term}
 use Rattle.semantics.specs.Terms.{In, has}
 use Rattle.semantics.specs.Webs.{Triple, terms_listed, by_bytes}
-use Rattle.semantics.proofs.Lists.{clash, has_in}
+use Rattle.semantics.proofs.Lists.{has_in}
 use Rattle.semantics.proofs.Bytes.{by_bytes_exact}
 
 -- every term of one list stands in another

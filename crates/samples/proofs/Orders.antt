@@ -1,9 +1,9 @@
 -- The two orders of the question about feeders.
-use Rattle.std.proofs.Common.{◌≡◌, Bool, true, false, ◌||◌, List, [], ◌∷◌, refl, arith}
+use Rattle.std.proofs.Common.{◌≡◌, Bool, false, ◌||◌, refl, arith}
 use Rattle.weights.specs.Codes.{counting}
 use Rattle.weights.specs.Counts.{counting_is_lawful}
 use Rattle.tokens.specs.Lexed.{same_bytes}
-use Rattle.semantics.specs.Alike.{Alike, and_order}
+use Rattle.semantics.specs.Alike.{and_order}
 use Rattle.semantics.specs.Named.{Names}
 use Rattle.semantics.specs.Webs.{by_bytes}
 use Rattle.semantics.proofs.Bytes.{by_bytes_exact}

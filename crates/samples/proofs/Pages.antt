@@ -1,5 +1,5 @@
 -- The solutions over the file of four pages, by computing them.
-use Rattle.std.proofs.Common.{◌≡◌, ℕ, Bool, true, false, cond, ◌&&◌, ◌⊎◌, List, [], ◌∷◌, ◌++◌, sym, refl, ap, ◌∙◌, subst, inl, inr}
+use Rattle.std.proofs.Common.{◌≡◌, Bool, true, false, cond, List, [], refl, ap, ◌∙◌, inl, inr}
 use Rattle.terms.specs.Terms.{Term}
 use Rattle.grammar.specs.Judged.{judged}
 use Rattle.semantics.specs.Terms.{In, has}

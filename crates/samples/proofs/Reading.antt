@@ -1,5 +1,5 @@
 -- The texts are questions, by the trees that spell them.
-use Rattle.std.proofs.Common.{◌≡◌, ℕ, ◌≤◌, Bool, true, false, ◌&&◌, leb, List, [], ◌∷◌, length, Some, None, codes, Option, sym, refl, ap, ◌∙◌, arith}
+use Rattle.std.proofs.Common.{◌≡◌, ℕ, ◌≤◌, Bool, true, false, ◌&&◌, leb, List, [], ◌∷◌, length, Some, None, codes, Option, refl, arith}
 use Rattle.std.proofs.lemmas.Bool.{and_parts}
 use Rattle.tokens.specs.Words.{Word}
 use Rattle.tokens.specs.Lexed.{tokens, cut}
@@ -8,8 +8,7 @@ use Rattle.terms.specs.Terms.{Term}
 use Rattle.grammar.specs.Syntax.{Pattern, nodes}
 use Rattle.grammar.specs.Grammar.{Tree, is-question, is-path, is-end, is-items, is-item, is_base, whole, braces, no_items, items, a_line, an_option, some_groups, groups, no_unions, ends, end_iri, end_literal, end_name, path, no_alternatives, alternatives, chain, no_steps, steps, forward, backward, once, repeated, predicate, other, one, spell, Name, means}
 use Rattle.grammar.specs.Limits.{Seen, nothing, limit, after, gather, Clear}
-use Rattle.grammar.specs.Reading.{Question, words}
-use Rattle.grammar.specs.Reading as reading
+use Rattle.grammar.specs.Reading.{words}
 use Rattle.grammar.specs.Numbered.{numbered}
 use Rattle.semantics.proofs.Lists.{clash}
 use Rattle.samples.specs.File.{Asked, value_of_substitutes, all_substitutes, who_names_it, whom_it_names, any_other_fact, nothing as asks_nothing, value_if_given, same_value_as_another, either_of_two, from_literal}

@@ -1,9 +1,9 @@
 -- Three pages suffice, by the law on walks.
-use Rattle.std.proofs.Common.{◌≡◌, Bool, true, false, cond, ◌⊎◌, List, [], ◌∷◌, sym, refl, ap, ◌∙◌, subst, inl, inr}
+use Rattle.std.proofs.Common.{◌≡◌, Bool, true, false, cond, ◌⊎◌, [], ◌∷◌, sym, refl, ap, ◌∙◌, inl, inr}
 use Rattle.terms.specs.Terms.{Term}
 use Rattle.semantics.specs.Terms.{In, has}
 use Rattle.semantics.specs.Webs.{terms_in, terms_listed, graph_of, Met, Universe, by_bytes}
-use Rattle.semantics.proofs.Lists.{clash, by_test, has_in}
+use Rattle.semantics.proofs.Lists.{clash, has_in}
 use Rattle.semantics.proofs.Bytes.{by_bytes_exact}
 use Rattle.semantics.proofs.Universes.{web_closed}
 use Rattle.walks.specs.Promises.{whole}
@@ -12,7 +12,7 @@ use Rattle.walks.proofs.Complete.{walk_is_complete}
 use Rattle.walks.proofs.Listed.{needs_are_listed}
 use Rattle.samples.specs.File.{m1, m2, m3, m4, val, forty_seven, triple, found, universe, value_of_substitutes}
 use Rattle.samples.specs.Shelf.{shelf, shelved, ThreePagesSuffice}
-use Rattle.samples.proofs.Lists.{within, within_has, page_within}
+use Rattle.samples.proofs.Lists.{within_has, page_within}
 use Rattle.samples.proofs.Pages.{file_is_a_web}
 
 listed_in : (i a : Term) → has by_bytes a (terms_listed (shelf i)) ≡ true → has by_bytes a shelved ≡ true

@@ -1,13 +1,12 @@
 -- The capacitor that filled two feeders. Board b:7 places c:1 and c:2, each of which has c:3 for a substitute, and c:3 fits feeders f:1 and f:2.
 -- Two planners ask which substitutes fit which feeders, with the halves of the question in opposite order.
-use Rattle.std.specs.Prelude.{◌≡◌, ℕ, Bool, true, false, cond, List, [], ◌∷◌, Some, None, codes as spelled, Option}
+use Rattle.std.specs.Prelude.{◌≡◌, ℕ, true, cond, List, [], ◌∷◌, Some, codes as spelled, Option}
 use Rattle.weights.specs.Kinds.{Kind}
 use Rattle.weights.specs.Codes.{counting, presence}
 use Rattle.terms.specs.Terms.{Term}
-use Rattle.grammar.specs.Syntax.{Path, link, inverse, sequence, End, constant, variable, Pattern, line, and}
+use Rattle.grammar.specs.Syntax.{link, inverse, sequence, constant, variable, Pattern, line, and}
 use Rattle.grammar.specs.Grammar.{Name, iri_term}
 use Rattle.grammar.specs.Judged.{judged}
-use Rattle.semantics.specs.Rows.{Row}
 use Rattle.semantics.specs.Bags.{Bag}
 use Rattle.semantics.specs.Graphs.{Graph}
 use Rattle.semantics.specs.Meaning.{weight_in, solutions}

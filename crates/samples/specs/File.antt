@@ -1,7 +1,7 @@
 -- A file of four pages, and questions over it.
-use Rattle.std.specs.Prelude.{ℕ, Bool, true, false, cond, List, [], ◌∷◌, codes}
+use Rattle.std.specs.Prelude.{ℕ, cond, List, [], ◌∷◌, codes}
 use Rattle.terms.specs.Terms.{Term}
-use Rattle.grammar.specs.Syntax.{Path, link, negated, inverse, star, sequence, alternative, End, constant, variable, Pattern, empty, line, and, union, opt}
+use Rattle.grammar.specs.Syntax.{link, negated, inverse, star, sequence, alternative, constant, variable, Pattern, empty, line, and, opt}
 use Rattle.grammar.specs.Grammar.{iri_term, literal_term}
 use Rattle.semantics.specs.Graphs.{Graph}
 use Rattle.semantics.specs.Webs.{Triple, graph_of, by_bytes}

@@ -3,7 +3,6 @@ use Rattle.std.specs.Prelude.{◌≡◌, cond, List, [], ◌∷◌}
 use Rattle.weights.specs.Kinds.{Kind, Lawful}
 use Rattle.terms.specs.Terms.{Term}
 use Rattle.semantics.specs.Rows.{Row}
-use Rattle.semantics.specs.Graphs.{Graph}
 use Rattle.semantics.specs.Meaning.{weight_in}
 use Rattle.semantics.specs.Webs.{Triple, graph_of, by_bytes}
 use Rattle.samples.specs.File.{m1, m2, m3, m4, alt, val, ten, twenty_two, found, graph, value_of_substitutes}

@@ -1,5 +1,5 @@
 -- What the questions over the file of four pages show. Every solution is listed, with its weight.
-use Rattle.std.specs.Prelude.{◌≡◌, ℕ, Bool, true, false, List, [], ◌∷◌, Some, None, Option}
+use Rattle.std.specs.Prelude.{◌≡◌, ℕ, true, false, List, [], ◌∷◌, Some}
 use Rattle.weights.specs.Kinds.{Kind}
 use Rattle.weights.specs.Codes.{counting, presence}
 use Rattle.terms.specs.Terms.{Term}
@@ -11,7 +11,7 @@ use Rattle.semantics.specs.Meaning.{solutions}
 use Rattle.semantics.specs.Webs.{by_bytes, Universe, Found}
 use Rattle.walks.specs.Needs.{needs}
 use Rattle.walks.specs.Promises.{whole}
-use Rattle.samples.specs.File.{m1, m2, m3, m4, alt, val, ten, twenty_two, forty_seven, found, universe, graph, Asked, value_of_substitutes, all_substitutes, who_names_it, whom_it_names, any_other_fact, nothing, value_if_given, same_value_as_another, either_of_two, from_literal}
+use Rattle.samples.specs.File.{m1, m2, m3, m4, ten, found, universe, graph, Asked, value_of_substitutes, all_substitutes, who_names_it, whom_it_names, any_other_fact, nothing, value_if_given, same_value_as_another, either_of_two, from_literal}
 
 abbrev pub solved : Kind → Asked → Bag Term ℕ
 solved k p = solutions by_bytes graph k p

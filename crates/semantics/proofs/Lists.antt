@@ -1,7 +1,7 @@
 -- Tests, and lists of terms.
-use Rattle.std.proofs.Common.{◌≡◌, Bool, true, false, cond, not, ◌&&◌, ◌||◌, ◌⊎◌, List, [], ◌∷◌, ◌++◌, sym, refl, ap, ◌∙◌, subst, ap₂, inl, inr, arith}
-use Rattle.std.proofs.lemmas.Bool.{and_parts, and_from, or_left, or_right, or_cases, true≢false}
-use Rattle.semantics.specs.Terms.{Terms, Exact, In, any, gather, has, Distinct}
+use Rattle.std.proofs.Common.{◌≡◌, Bool, true, false, ◌&&◌, ◌||◌, ◌⊎◌, List, [], ◌∷◌, ◌++◌, sym, refl, ap, ◌∙◌, subst, inl, inr, arith}
+use Rattle.std.proofs.lemmas.Bool.{or_left, or_right, or_cases, true≢false}
+use Rattle.semantics.specs.Terms.{Terms, Exact, In, any, gather, has}
 
 pub clash : {B : Type 0} {b : Bool} → b ≡ true → b ≡ false → B
 clash p q = absurd (true≢false (sym p ∙ q))

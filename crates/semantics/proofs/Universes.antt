@@ -1,16 +1,16 @@
 -- Every Web has its universe, since there are finitely many IRIs; and its graph is closed.
-use Rattle.std.proofs.Common.{◌≡◌, ℕ, zero, suc, ◌<◌, ◌≤◌, Bool, true, false, cond, not, ◌&&◌, ◌||◌, eqb, ltb, leb, ◌⊎◌, List, [], ◌∷◌, ◌++◌, length, sym, refl, ap, ◌∙◌, subst, inl, inr, arith}
-use Rattle.std.proofs.lemmas.Bool.{and_parts, and_from, or_left, or_right, or_cases}
+use Rattle.std.proofs.Common.{◌≡◌, ℕ, zero, suc, ◌<◌, ◌≤◌, Bool, true, false, cond, ◌||◌, eqb, ltb, leb, ◌⊎◌, List, [], ◌∷◌, ◌++◌, length, sym, refl, ap, ◌∙◌, subst, inl, inr, arith}
+use Rattle.std.proofs.lemmas.Bool.{and_parts, or_cases}
 use Rattle.terms.specs.declared.kind.Kind.{Kind}
 use Rattle.terms.specs.declared.kind.Kind.TheVariants.{Iri, Literal}
-use Rattle.terms.specs.Bytes.{between, one_of, iri_byte}
+use Rattle.terms.specs.Bytes.{between, iri_byte}
 use Rattle.terms.specs.Terms.{Term}
 use Rattle.grammar.specs.Syntax.{Pattern}
 use Rattle.semantics.specs.Terms.{Terms, Exact, In, gather, has, Distinct}
-use Rattle.semantics.specs.Graphs.{Graph, Closed}
-use Rattle.semantics.specs.Webs.{Triple, terms_in, terms_listed, about, graph_of, Met, Universe, is_iri_kind, by_bytes, all_bytes, lawful_iri, Found}
+use Rattle.semantics.specs.Graphs.{Closed}
+use Rattle.semantics.specs.Webs.{Triple, terms_in, terms_listed, about, graph_of, Met, Universe, is_iri_kind, by_bytes, all_bytes, lawful_iri}
 use Rattle.semantics.specs.Laws.{EveryWebHasItsUniverse}
-use Rattle.semantics.proofs.Lists.{clash, iff, by_test, in_left, in_right, in_either, in_gather, gather_in, same_back, has_in, in_has}
+use Rattle.semantics.proofs.Lists.{clash, iff, by_test, in_left, in_right, in_either, in_gather, gather_in, has_in, in_has}
 use Rattle.semantics.proofs.Bytes.{by_bytes_exact}
 
 -- ---- lists without repeats

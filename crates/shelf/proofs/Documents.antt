@@ -1,8 +1,8 @@
 -- Kinds by number, and the triples of an entry.
-use Rattle.std.proofs.Common.{◌≡◌, ℕ, zero, suc, ◌+◌, ◌-◌, ◌<◌, ◌≤◌, Bool, true, false, cond, eqb, List, [], ◌∷◌, length, get_or, take, drop, sym, refl, ap, ◌∙◌, arith}
+use Rattle.std.proofs.Common.{◌≡◌, ℕ, zero, suc, ◌+◌, ◌-◌, ◌<◌, ◌≤◌, true, false, cond, eqb, List, [], ◌∷◌, length, get_or, take, drop, sym, refl, ap, ◌∙◌, arith}
 use Rattle.std.proofs.lemmas.List.{drop_all, drop_more, take_all, get_or_past, length-drop}
 use Rattle.terms.specs.declared.kind.Kind.{Kind}
-use Rattle.terms.specs.declared.kind.Kind.TheVariants.{Iri, Literal}
+use Rattle.terms.specs.declared.kind.Kind.TheVariants.{Literal}
 use Rattle.shelf.specs.declared.items.Noted.{Noted}
 use Rattle.shelf.specs.declared.items.Listed.{Listed}
 use Rattle.shelf.specs.Contexts.{is_iri_kind, iri_among, listed_in}

@@ -1,14 +1,14 @@
 -- The terms of a question, read one after the other.
-use Rattle.std.proofs.Common.{◌≡◌, ℕ, zero, suc, ◌+◌, ◌-◌, ◌<◌, ◌≤◌, Bool, true, false, cond, List, [], ◌∷◌, ◌++◌, map, length, get_or, take, drop, is_some, Some, None, Ok, Err, vec_items, vec_len, Option, sym, refl, ap, ◌∙◌, subst, ap₂, append_assoc, append-nil, arith, length-append, take-append-drop, take_all, take_at}
+use Rattle.std.proofs.Common.{◌≡◌, ℕ, ◌+◌, ◌≤◌, Bool, true, false, cond, List, [], ◌∷◌, ◌++◌, map, length, take, drop, is_some, Some, None, Ok, Err, vec_items, Option, sym, refl, ap, ◌∙◌, subst, ap₂, arith, take-append-drop, take_all, take_at}
 use lib.ListN.{length-map}
-use Rattle.std.proofs.lemmas.List.{take_more, map_push, drop_more}
+use Rattle.std.proofs.lemmas.List.{take_more, map_push}
 use Rattle.terms.specs.Terms.{Term}
 use Rattle.question.specs.declared.question.Question.{Question}
 use Rattle.question.specs.Arena.{term_of}
 use Rattle.question.specs.Asking.{asked}
 use Rattle.question.specs.Views.{Stands}
 use Rattle.lexicon.specs.Numbering.{number_of, enter, enter_all, within, admit, admitted}
-use Rattle.lexicon.proofs.Numbers.{enter_all_append, enter_all_front, enter_front, within_front, not_true}
+use Rattle.lexicon.proofs.Numbers.{enter_all_append, enter_all_front, within_front, not_true}
 use Rattle.store.specs.State.{State, fitting, entered, enters, numbered}
 use Rattle.store.specs.Entering.{Entering}
 

@@ -1,11 +1,11 @@
 -- Triples that are read from a Web and enter one after the other.
-use Rattle.std.proofs.Common.{◌≡◌, ℕ, zero, suc, ◌+◌, ◌-◌, ◌<◌, ◌≤◌, Bool, true, false, cond, ◌&&◌, leb, List, [], ◌∷◌, ◌++◌, map, length, get_or, take, drop, is_some, Some, None, Ok, Err, Option, Result, sym, refl, ap, ◌∙◌, subst, ap₂, append_assoc, append-nil, arith, length-append, take-append-drop, length-take, take_all, take_at, le-leb, leb-false, leb-true}
+use Rattle.std.proofs.Common.{◌≡◌, ℕ, zero, suc, ◌+◌, ◌-◌, ◌<◌, ◌≤◌, Bool, true, false, cond, ◌&&◌, leb, List, [], ◌∷◌, ◌++◌, map, length, get_or, take, drop, Some, None, Ok, Err, Option, Result, sym, refl, ap, ◌∙◌, subst, ap₂, append_assoc, append-nil, arith, length-append, take-append-drop, length-take, take_all, take_at, le-leb, leb-false, leb-true}
 use lib.ListN.{length-map}
 use Rattle.terms.specs.Terms.{Term}
 use Rattle.terms.specs.declared.kind.Kind.{Kind}
 use Rattle.terms.specs.declared.kind.Kind.TheVariants.{Iri, Literal}
 use Rattle.terms.specs.Lawful.{is_iri, lawful_bytes, lawful as lawful_term}
-use Rattle.lexicon.specs.Numbering.{term, number_of, enter, enter_all, within, admit, admitted}
+use Rattle.lexicon.specs.Numbering.{term, number_of, enter, enter_all, within}
 use Rattle.lexicon.specs.Parts.{no_term}
 use Rattle.lexicon.proofs.Numbers.{and_left, and_right, enter_all_append, enter_all_front, enter_front, within_front, number_entered, number_stays, number_front, not_true}
 use Rattle.shelf.specs.declared.items.Listed.{Listed}

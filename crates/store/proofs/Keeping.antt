@@ -1,16 +1,16 @@
 -- What a lookup adds, and that it takes nothing away.
-use Rattle.std.proofs.Common.{◌≡◌, ℕ, zero, suc, ◌+◌, ◌-◌, ◌<◌, ◌≤◌, Bool, true, false, cond, ◌&&◌, leb, List, [], ◌∷◌, ◌++◌, map, length, get_or, take, drop, sym, refl, ap, ◌∙◌, subst, ap₂, append_assoc, append-nil, arith, length-append, take_all, drop_at, le-leb, leb-true}
+use Rattle.std.proofs.Common.{◌≡◌, ℕ, ◌+◌, ◌<◌, ◌≤◌, Bool, true, false, cond, ◌&&◌, leb, List, [], ◌∷◌, ◌++◌, map, length, take, drop, sym, refl, ap, ◌∙◌, ap₂, append-nil, arith, length-append, take_all, drop_at, le-leb, leb-true}
 use lib.ListN.{length-map}
 use Rattle.terms.specs.Terms.{Term}
-use Rattle.lexicon.specs.Numbering.{number_of, enter, enter_all, within}
-use Rattle.lexicon.proofs.Numbers.{and_left, and_right, number_stays, not_true}
+use Rattle.lexicon.specs.Numbering.{number_of, enter_all, within}
+use Rattle.lexicon.proofs.Numbers.{and_left, and_right, number_stays}
 use Rattle.shelf.specs.declared.items.Listed.{Listed}
 use Rattle.web.specs.Meaning.{Triple, Told, found, absent, broken}
 use Rattle.store.specs.declared.record.Mark.{Mark}
 use Rattle.store.specs.declared.record.Mark.TheVariants.{Found, Absent, Broken, Unfit}
 use Rattle.store.specs.declared.record.Entry.{Entry}
 use Rattle.store.specs.Places.{size}
-use Rattle.store.specs.State.{State, fresh, parts_of, listed, fits, marked, shelved, noted, total}
+use Rattle.store.specs.State.{State, parts_of, listed, fits, marked, shelved, noted, total}
 use Rattle.store.specs.Laws as law
 
 pub fits_is : (s : State) (xs : List Triple) → fits s xs ≡ true → (length s.triples + length xs ≤ 4096) × (within (enter_all s.terms (parts_of xs)) ≡ true)

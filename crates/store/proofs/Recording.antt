@@ -1,5 +1,5 @@
 -- The record in its two lists.
-use Rattle.std.proofs.Common.{◌≡◌, ℕ, zero, suc, ◌+◌, ◌-◌, ◌<◌, ◌≤◌, Bool, true, false, ltb, List, [], ◌∷◌, ◌++◌, length, get_or, take, Ok, Err, vec_items, vec_len, sym, refl, ap, ◌∙◌, subst, ap₂, arith, length-append, take_at, ltb-false, ltb-true}
+use Rattle.std.proofs.Common.{◌≡◌, ℕ, zero, suc, ◌+◌, ◌<◌, ◌≤◌, Bool, true, false, ltb, List, [], ◌∷◌, ◌++◌, length, get_or, take, Ok, Err, vec_items, vec_len, sym, refl, ap, ◌∙◌, subst, ap₂, arith, length-append, take_at, ltb-false, ltb-true}
 use lib.Seq.{take-append-le}
 use Rattle.std.proofs.lemmas.List.{get_or_append_left, get_or_push}
 use Rattle.shelf.specs.declared.items.Noted.{Noted}

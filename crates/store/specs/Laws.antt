@@ -1,13 +1,11 @@
 -- Laws of what a lookup adds.
-use Rattle.std.specs.Prelude.{◌≡◌, ℕ, ◌+◌, ◌<◌, ◌≤◌, true, false, List, [], ◌∷◌, ◌++◌, map, length, take, drop}
+use Rattle.std.specs.Prelude.{◌≡◌, ℕ, ◌<◌, ◌≤◌, true, false, List, [], ◌∷◌, ◌++◌, map, length, take, drop}
 use Rattle.terms.specs.Terms.{Term}
 use Rattle.lexicon.specs.Numbering.{number_of, within}
 use Rattle.shelf.specs.declared.items.Listed.{Listed}
 use Rattle.web.specs.Meaning.{Triple, Told, found}
 use Rattle.store.specs.declared.record.Mark.{Mark}
 use Rattle.store.specs.declared.record.Mark.TheVariants.{Unfit}
-use Rattle.store.specs.declared.record.Entry.{Entry}
-use Rattle.store.specs.Places.{size}
 use Rattle.store.specs.State.{State, fresh, fits, noted, listed, total}
 
 -- one entry more, that of the IRI which was looked up

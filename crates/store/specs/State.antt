@@ -1,5 +1,5 @@
 -- What a session keeps beside its waiting rows, and what a lookup adds to it.
-use Rattle.std.specs.Prelude.{◌≡◌, ℕ, zero, suc, ◌+◌, Bool, true, false, cond, ◌&&◌, List, [], ◌∷◌, ◌++◌, map, length, Ok, Err, Result, nat_le}
+use Rattle.std.specs.Prelude.{ℕ, zero, suc, ◌+◌, Bool, cond, ◌&&◌, List, [], ◌∷◌, ◌++◌, map, length, Ok, Err, Result, nat_le}
 use Rattle.terms.specs.Terms.{Term}
 use Rattle.lexicon.specs.Numbering.{number_of, enter_all, within}
 use Rattle.shelf.specs.declared.items.Listed.{Listed}

@@ -4,7 +4,7 @@ use Rattle.std.proofs.lemmas.List.{take-append-drop, length-take-le, length-appe
 use Rattle.std.proofs.lemmas.Bool.{true≢false, cond_both}
 use Rattle.terms.specs.Bytes.{blank_byte}
 use Rattle.tokens.specs.Words.{Word, wrong, end}
-use Rattle.tokens.specs.Lexed.{piece, Spot, final, put, cut, lexeme, tokens}
+use Rattle.tokens.specs.Lexed.{Spot, final, put, cut, lexeme}
 use Rattle.tokens.specs.Laid.{Each, Spells, Stray, Laid, EveryTextIsLaid, LaidOnce}
 use Rattle.tokens.proofs.Cuts.{cut_blank, cut_token, cut_end, cut_past}
 use Rattle.tokens.proofs.Spelled.{Taken, spelled, Read, read}

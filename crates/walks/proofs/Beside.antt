@@ -1,11 +1,11 @@
 -- Documents beside those that are needed change nothing: over more documents a walk reaches no more than it reached.
-use Rattle.std.proofs.Common.{◌≡◌, ℕ, Bool, true, false, cond, ◌&&◌, ◌||◌, ◌⊎◌, List, [], ◌∷◌, ◌++◌, Some, None, Option, sym, refl, ap, ◌∙◌, subst, inl, inr}
+use Rattle.std.proofs.Common.{◌≡◌, ℕ, Bool, true, false, cond, ◌&&◌, [], ◌++◌, None, Option, sym, refl, ap, ◌∙◌, subst, inl, inr}
 use lib.Bits.{bit_or}
 use Rattle.std.proofs.lemmas.Bool.{and_parts, and_from, or_left}
 use Rattle.weights.specs.Codes.{presence}
 use Rattle.weights.proofs.Fairness.{lawful_codes_are_fair}
 use Rattle.weights.specs.Presences.{presence_is_lawful}
-use Rattle.grammar.specs.Syntax.{Path, link, negated, inverse, star, sequence, alternative, End, Pattern, empty, line, and, union, opt}
+use Rattle.grammar.specs.Syntax.{Path, star, End, Pattern, empty, line, and, union, opt}
 use Rattle.grammar.specs.Bounded.{fixed}
 use Rattle.grammar.specs.Masks.{member}
 use Rattle.grammar.specs.Judged.{sure_mask, judged}
@@ -14,14 +14,14 @@ use Rattle.semantics.specs.Terms.{Terms, Exact, In, has}
 use Rattle.semantics.specs.Rows.{Row, merge, compatible}
 use Rattle.semantics.specs.Graphs.{Graph, Closed, pair}
 use Rattle.semantics.specs.Meaning.{end_row, stands, stand, merges, possible}
-use Rattle.semantics.specs.Webs.{Triple, terms_in, term_of_end, terms_in_path, about, graph_of, Universe}
+use Rattle.semantics.specs.Webs.{terms_in, term_of_end, terms_in_path, about, graph_of}
 use Rattle.semantics.proofs.Lists.{clash, by_test, or_second, in_left, in_right, in_either, in_gather, gather_in, has_in}
 use Rattle.semantics.proofs.Links.{pair_ends}
 use Rattle.semantics.proofs.Paths.{pair_same}
 use Rattle.semantics.proofs.Universes.{web_closed}
 use Rattle.semantics.proofs.Possible.{in_one, in_merges}
 use Rattle.semantics.proofs.RowLaws.{compatible_order, compatible_first, compatible_second, compatible_grouping, merge_order}
-use Rattle.walks.specs.Plans.{left_first, left_step_first, from_left, fixed_to, allows, Asking, path, part, Leads, to_inverse, to_left_choice, to_right_choice, to_left_step, from_left_step, to_right_step, from_right_step, star_onward as onwards, star_backward as backwards, to_path, to_left_side, from_left_side, to_right_side, from_right_side, to_left_union, to_right_union, to_outside, to_option, Reached, here, there, Reads, for_link, for_negated, Needed}
+use Rattle.walks.specs.Plans.{left_first, from_left, fixed_to, allows, Asking, path, part, Leads, to_inverse, to_left_choice, to_right_choice, to_left_step, from_left_step, to_right_step, from_right_step, star_onward as onwards, star_backward as backwards, to_path, to_left_side, from_left_side, to_right_side, from_right_side, to_left_union, to_right_union, to_outside, to_option, Reached, here, there}
 use Rattle.walks.specs.Crowds.{Crowd, Crowded, rows, pairs, onward, backward}
 use Rattle.walks.specs.Promises.{whole, KeptByGrowth, NothingElseMatters}
 use Rattle.walks.proofs.Gives.{Known, Gives, gives_merge, gives_nothing, possible_gives}

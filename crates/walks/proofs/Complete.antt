@@ -1,10 +1,10 @@
 -- A bounded question means the same over two graphs that agree where the plan over the second needs it. Of the bags only the rows are compared that are
 -- compatible with what is fixed, so that each side of an AND is compared where the other has come.
-use Rattle.std.proofs.Common.{◌≡◌, ℕ, zero, suc, Bool, true, false, cond, ◌&&◌, ◌||◌, ◌⊎◌, List, [], ◌∷◌, ◌++◌, Some, None, Option, sym, refl, ap, ◌∙◌, subst, ap₂, inl, inr}
+use Rattle.std.proofs.Common.{◌≡◌, ℕ, zero, suc, Bool, true, false, cond, ◌&&◌, ◌⊎◌, List, [], ◌∷◌, ◌++◌, Some, None, Option, sym, refl, ap, ◌∙◌, subst, ap₂, inl, inr}
 use mathlib.Core.Path.{fun_ext}
 use lib.Bits.{bit_or}
-use Rattle.std.proofs.lemmas.Bool.{and_parts, and_from, or_cases}
-use Rattle.weights.specs.Scales.{Scale, Fair, lawful_codes}
+use Rattle.std.proofs.lemmas.Bool.{and_parts}
+use Rattle.weights.specs.Scales.{Scale, Fair}
 use Rattle.weights.proofs.Fairness.{lawful_codes_are_fair}
 use Rattle.grammar.specs.Syntax.{Path, End, constant, variable, Pattern, empty, line, and, union, opt}
 use Rattle.grammar.specs.Bounded.{fixed}
@@ -12,19 +12,19 @@ use Rattle.grammar.specs.Masks.{member}
 use Rattle.grammar.specs.Judged.{sure_mask, judged}
 use Rattle.semantics.specs.Terms.{Terms, Exact, In, has}
 use Rattle.semantics.specs.Rows.{Row, single, given, merge, compatible}
-use Rattle.semantics.specs.Bags.{Bag, total, only, weight, join, alone, bare}
-use Rattle.semantics.specs.Graphs.{Graph, Closed, pair, weigh}
-use Rattle.semantics.specs.Meaning.{end_row, stands, stand, meaning, possible, weight_in}
+use Rattle.semantics.specs.Bags.{Bag, only, join, alone, bare}
+use Rattle.semantics.specs.Graphs.{Graph, Closed, weigh}
+use Rattle.semantics.specs.Meaning.{end_row, stands, stand, meaning, possible}
 use Rattle.semantics.specs.Webs.{Triple, terms_in, term_of_end, terms_in_path, terms_listed, about, graph_of, Met, Universe}
-use Rattle.semantics.proofs.Lists.{clash, by_test, or_second, in_left, in_right, has_in, in_has}
-use Rattle.semantics.proofs.RowLaws.{same_gives, compatible_gives, compatible_grouping, compatible_first, compatible_second}
-use Rattle.semantics.proofs.Totals.{zero_product, total_local, only_only, Within}
+use Rattle.semantics.proofs.Lists.{clash, by_test, or_second, in_left, in_right, in_has}
+use Rattle.semantics.proofs.RowLaws.{compatible_grouping, compatible_first, compatible_second}
+use Rattle.semantics.proofs.Totals.{total_local, only_only}
 use Rattle.semantics.proofs.Integrals.{integral, Balanced, balanced_weight, integral-++, integral_only, integral_join, integral_bare, alone_integral, join_order}
 use Rattle.semantics.proofs.Paths.{weigh_to, weigh_from}
 use Rattle.semantics.proofs.Lines.{spot, spot_zero, integral_line, total_twice}
 use Rattle.semantics.proofs.Codings.{weight_coded}
 use Rattle.semantics.proofs.Universes.{web_closed}
-use Rattle.walks.specs.Plans.{left_first, fixed_to, allows, Asking, path, part, Leads, to_path, to_left_side, from_left_side, to_right_side, from_right_side, to_left_union, to_right_union, to_outside, to_option, Reached, here, there, Reads, Needed}
+use Rattle.walks.specs.Plans.{left_first, fixed_to, allows, part, to_path, to_left_side, from_left_side, to_right_side, from_right_side, to_left_union, to_right_union, to_outside, to_option, there, Needed}
 use Rattle.walks.specs.Promises.{whole, WalkIsComplete}
 use Rattle.semantics.proofs.Possible.{rows_of, in_rows, rows_possible}
 use Rattle.walks.proofs.Gives.{Known, Gives, gives_merge, gives_nothing, possible_gives}

@@ -1,10 +1,8 @@
 -- With more documents a walk reaches all that it reached; and what it needs is in the universe.
-use Rattle.std.proofs.Common.{◌≡◌, ℕ, Bool, true, false, cond, ◌&&◌, ◌||◌, ◌⊎◌, List, [], ◌∷◌, ◌++◌, Some, None, Option, sym, refl, ap, ◌∙◌, subst, inl, inr}
-use lib.Bits.{bit_or}
+use Rattle.std.proofs.Common.{◌≡◌, ℕ, Bool, true, false, cond, ◌&&◌, List, [], ◌∷◌, ◌++◌, Option, sym, refl, ap, ◌∙◌, subst, inl, inr}
 use Rattle.std.proofs.lemmas.Bool.{and_parts, and_from, or_left, or_right, or_cases}
 use Rattle.grammar.specs.Syntax.{Path, link, negated, inverse, star, sequence, alternative, End, constant, variable, Pattern, empty, line, and, union, opt}
-use Rattle.grammar.specs.Judged.{sure_mask}
-use Rattle.semantics.specs.Terms.{Terms, Exact, In, any, gather, has}
+use Rattle.semantics.specs.Terms.{Terms, Exact, In, has}
 use Rattle.semantics.specs.Rows.{Row, given, merge, compatible}
 use Rattle.semantics.specs.Graphs.{Graph, Closed, pair}
 use Rattle.semantics.specs.Meaning.{end_row, stand, merges_of, merges, possible}
@@ -14,8 +12,8 @@ use Rattle.semantics.proofs.Links.{pair_ends, star_onward, star_here, star_after
 use Rattle.semantics.proofs.Possible.{in_one, in_merges}
 use Rattle.semantics.proofs.RowLaws.{given_merge}
 use Rattle.semantics.proofs.Universes.{web_closed}
-use Rattle.walks.specs.Plans.{fixed_to, allows, Asking, path, part, Leads, to_inverse, to_left_choice, to_right_choice, to_left_step, from_left_step, to_right_step, from_right_step, star_onward as onwards, star_backward as backwards, to_path, to_left_side, from_left_side, to_right_side, from_right_side, to_left_union, to_right_union, to_outside, to_option, Reached, here, there, Reads, for_link, for_negated, Needed}
-use Rattle.walks.specs.Crowds.{Crowd, Crowded, rows, pairs, onward, backward, TooMany}
+use Rattle.walks.specs.Plans.{fixed_to, Asking, path, part, Leads, to_inverse, to_left_choice, to_right_choice, to_left_step, from_left_step, to_right_step, from_right_step, star_onward as onwards, star_backward as backwards, to_path, to_left_side, from_left_side, to_right_side, from_right_side, to_left_union, to_right_union, to_outside, to_option, Reached, here, there, Reads, for_link, for_negated, Needed}
+use Rattle.walks.specs.Crowds.{Crowd, Crowded, rows, pairs, onward, backward}
 use Rattle.walks.specs.Promises.{whole, Grows, KeptByGrowth, WalksOnlyGrow, NeedsAreMet}
 use Rattle.walks.proofs.Gives.{Known, known_less, known_merge, possible_gives}
 

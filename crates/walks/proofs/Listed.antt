@@ -1,12 +1,12 @@
 -- The list of needs has exactly what is needed.
-use Rattle.std.proofs.Common.{◌≡◌, ℕ, Bool, true, false, cond, ◌&&◌, ◌||◌, ◌⊎◌, ◌↔◌, List, [], ◌∷◌, ◌++◌, Some, None, Option, sym, refl, ap, ◌∙◌, subst, inl, inr}
+use Rattle.std.proofs.Common.{◌≡◌, ℕ, Bool, true, false, cond, ◌&&◌, ◌⊎◌, List, [], ◌∷◌, Some, None, Option, sym, refl, ap, ◌∙◌, subst, inl, inr}
 use lib.Bits.{bit_or}
 use Rattle.std.proofs.lemmas.Bool.{and_parts, and_from}
-use Rattle.grammar.specs.Syntax.{Path, link, negated, inverse, star, sequence, alternative, End, constant, variable, Pattern, empty, line, and, union, opt}
+use Rattle.grammar.specs.Syntax.{Path, link, negated, inverse, star, sequence, alternative, Pattern, empty, line, and, union, opt}
 use Rattle.grammar.specs.Bounded.{fixed}
 use Rattle.grammar.specs.Masks.{member}
 use Rattle.grammar.specs.Judged.{sure_mask}
-use Rattle.semantics.specs.Terms.{Terms, Exact, In, gather}
+use Rattle.semantics.specs.Terms.{Terms, Exact, In}
 use Rattle.semantics.specs.Rows.{Row, merge, compatible}
 use Rattle.semantics.specs.Graphs.{Graph, Closed, pair}
 use Rattle.semantics.specs.Meaning.{possible}
@@ -14,7 +14,7 @@ use Rattle.semantics.proofs.Lists.{clash, by_test, in_left, in_right, in_either,
 use Rattle.semantics.proofs.Links.{pair_ends}
 use Rattle.semantics.proofs.Possible.{in_one}
 use Rattle.walks.specs.Plans.{left_first, left_step_first, from_left, fixed_to, allows, Asking, path, part, Leads, to_inverse, to_left_choice, to_right_choice, to_left_step, from_left_step, to_right_step, from_right_step, star_onward as onwards, star_backward as backwards, to_path, to_left_side, from_left_side, to_right_side, from_right_side, to_left_union, to_right_union, to_outside, to_option, Reached, here, there, Reads, for_link, for_negated, Needed}
-use Rattle.walks.specs.Needs.{iri_at, onward, backward, path_needs, suited, part_needs, needs}
+use Rattle.walks.specs.Needs.{onward, backward, path_needs, suited, part_needs, needs}
 use Rattle.walks.specs.Promises.{NeedsAreListed}
 use Rattle.walks.proofs.Growth.{one_in}
 

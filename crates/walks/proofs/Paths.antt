@@ -1,6 +1,5 @@
 -- A path that can be walked weighs the same over two graphs that agree where the plan over the second needs it.
-use Rattle.std.proofs.Common.{◌≡◌, Bool, true, false, ◌&&◌, ◌||◌, ◌⊎◌, List, [], ◌∷◌, Some, None, Option, sym, refl, ap, ◌∙◌, subst, ap₂, inl, inr}
-use mathlib.Core.Path.{fun_ext}
+use Rattle.std.proofs.Common.{◌≡◌, Bool, true, false, ◌&&◌, Some, None, Option, sym, refl, ap, ◌∙◌, subst, ap₂}
 use Rattle.std.proofs.lemmas.Bool.{and_parts}
 use Rattle.weights.specs.Scales.{Scale, Fair}
 use Rattle.grammar.specs.Syntax.{Path, link, negated, inverse, star, sequence, alternative}
@@ -12,7 +11,7 @@ use Rattle.semantics.proofs.Lists.{clash, iff, by_test, or_second}
 use Rattle.semantics.proofs.Links.{pair_ends, star_here, star_backward, star_before}
 use Rattle.semantics.proofs.Totals.{zero_product}
 use Rattle.semantics.proofs.Paths.{no_pair, pair_same, star_from_same, sequence_same}
-use Rattle.walks.specs.Plans.{left_step_first, from_left, allows, Asking, path, part, Leads, to_inverse, to_left_choice, to_right_choice, to_left_step, from_left_step, to_right_step, from_right_step, star_onward, star_backward as backwards, Reached, here, there, Reads, for_link, for_negated}
+use Rattle.walks.specs.Plans.{left_step_first, from_left, allows, Asking, path, to_inverse, to_left_choice, to_right_choice, to_left_step, from_left_step, to_right_step, from_right_step, star_onward, star_backward as backwards, Reached, here, there, Reads, for_link, for_negated}
 use Rattle.walks.proofs.Gives.{Known}
 
 -- the two graphs have the same context wherever the plan over the second reads it

@@ -1,7 +1,6 @@
 -- A translated question means what the question means, translated.
-use Rattle.std.proofs.Common.{◌≡◌, ℕ, zero, suc, Bool, true, false, cond, not, ◌&&◌, ◌||◌, eqb, ◌⊎◌, List, [], ◌∷◌, ◌++◌, Some, None, Option, sym, refl, ap, ◌∙◌, subst, ap₂, inl, inr}
+use Rattle.std.proofs.Common.{◌≡◌, ℕ, zero, suc, Bool, true, false, cond, not, ◌&&◌, ◌||◌, eqb, List, [], ◌∷◌, ◌++◌, Some, None, Option, sym, refl, ap, ◌∙◌, subst, ap₂, inl, inr}
 use lib.Bits.{bit_and, bit_or}
-use Rattle.weights.specs.Kinds.{Kind}
 use Rattle.weights.specs.Scales.{Scale, codes}
 use Rattle.grammar.specs.Syntax.{Path, link, negated, inverse, star, sequence, alternative, End, constant, variable, Pattern, empty, line, and, union, opt}
 use Rattle.grammar.specs.Bounded.{fixed}
@@ -17,8 +16,8 @@ use Rattle.semantics.specs.Webs.{term_of_end, terms_in_path, terms_in}
 use Rattle.semantics.proofs.Lists.{clash, in_left, in_right, in_gather, has_in}
 use Rattle.semantics.proofs.Possible.{in_one, rows_possible, rows_of}
 use Rattle.walks.specs.Plans.{left_first, left_step_first, from_left, fixed_to, allows}
-use Rattle.walks.specs.Needs.{iri_at, onward, backward, path_needs, suited, part_needs, needs}
-use Rattle.walks.specs.Translated.{each, slot_by, row_by, path_by, end_by, pattern_by, bag_by, Faithful, graph_by, Translates, NamesAreFree}
+use Rattle.walks.specs.Needs.{iri_at, onward, backward, path_needs, suited, part_needs}
+use Rattle.walks.specs.Translated.{each, slot_by, row_by, path_by, end_by, pattern_by, bag_by, Faithful, graph_by, NamesAreFree}
 use Rattle.walks.proofs.Gives.{Known, known_less, possible_gives}
 use Rattle.walks.proofs.Listed.{in_suited}
 

@@ -1,10 +1,10 @@
 -- What a sub-question needs, as a list that can be computed.
 use Rattle.std.specs.Prelude.{ℕ, Bool, true, false, cond, ◌&&◌, List, [], ◌∷◌, ◌++◌, Some, None, Option, bit_or}
-use Rattle.grammar.specs.Syntax.{Path, link, negated, inverse, star, sequence, alternative, End, constant, variable, Pattern, empty, line, and, union, opt}
+use Rattle.grammar.specs.Syntax.{Path, link, negated, inverse, star, sequence, alternative, Pattern, empty, line, and, union, opt}
 use Rattle.grammar.specs.Bounded.{fixed}
 use Rattle.grammar.specs.Masks.{member}
 use Rattle.grammar.specs.Judged.{sure_mask}
-use Rattle.semantics.specs.Terms.{Terms, In, gather}
+use Rattle.semantics.specs.Terms.{Terms, gather}
 use Rattle.semantics.specs.Rows.{Row, merge, compatible}
 use Rattle.semantics.specs.Graphs.{Graph, pair}
 use Rattle.semantics.specs.Meaning.{possible}

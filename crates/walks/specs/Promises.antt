@@ -1,5 +1,5 @@
 -- What is promised of walks.
-use Rattle.std.specs.Prelude.{◌≡◌, ℕ, Bool, true, ◌⊎◌, ◌↔◌, List, []}
+use Rattle.std.specs.Prelude.{◌≡◌, ℕ, true, ◌⊎◌, ◌↔◌, List, []}
 use Rattle.weights.specs.Kinds.{Kind, Lawful}
 use Rattle.grammar.specs.Syntax.{Pattern}
 use Rattle.grammar.specs.Judged.{judged}

@@ -4,7 +4,7 @@ use Rattle.std.specs.Prelude.{◌≡◌, ℕ, Bool, true, List, [], ◌∷◌, S
 use Rattle.weights.specs.Kinds.{Kind}
 use Rattle.weights.specs.Scales.{codes}
 use Rattle.grammar.specs.Syntax.{Path, link, negated, inverse, star, sequence, alternative, End, constant, variable, Pattern, empty, line, and, union, opt}
-use Rattle.grammar.specs.Judged.{sure_mask, judged}
+use Rattle.grammar.specs.Judged.{judged}
 use Rattle.semantics.specs.Terms.{Terms, Exact, In}
 use Rattle.semantics.specs.Rows.{Row}
 use Rattle.semantics.specs.Bags.{Bag}

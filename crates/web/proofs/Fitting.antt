@@ -1,7 +1,7 @@
 -- The terms of a lawful meaning are short.
-use Rattle.std.proofs.Common.{◌≡◌, ℕ, zero, suc, ◌≤◌, Bool, true, false, cond, ◌&&◌, eqb, leb, List, [], ◌∷◌, length, Some, None, Option, sym, refl, ap, ◌∙◌, arith, leb-true}
+use Rattle.std.proofs.Common.{◌≡◌, ℕ, zero, suc, ◌≤◌, Bool, true, false, cond, ◌&&◌, eqb, leb, List, [], ◌∷◌, length, Some, None, Option, refl, ap, arith, leb-true}
 use Rattle.terms.specs.Bytes.{iri_byte, literal_byte}
-use Rattle.terms.specs.Lawful.{every, is_iri, is_literal, lawful_bytes}
+use Rattle.terms.specs.Lawful.{every, is_iri, lawful_bytes}
 use Rattle.terms.specs.Terms.{Term}
 use Rattle.terms.specs.declared.kind.Kind.{Kind}
 use Rattle.terms.specs.declared.kind.Kind.TheVariants.{Iri, Literal}

@@ -1,4 +1,4 @@
-use Rattle.std.proofs.Common.{◌≡◌, ◌≤◌, ◌⊎◌, length, sym, ◌∙◌, inl, inr, arith}
+use Rattle.std.proofs.Common.{◌≤◌, ◌⊎◌, length, sym, ◌∙◌, inl, inr, arith}
 use Rattle.needs.proofs.Ordering.{begin_same, begin_other, begin_end}
 use Rattle.needs.proofs.lowest.is_before.Goals as goal
 use Rattle.needs.proofs.lowest.is_before.Goals.{then-loop-place-test+else-place-b, else-loop-place-test}

@@ -1,4 +1,4 @@
-use Rattle.std.proofs.Common.{◌≡◌, sym, ◌∙◌}
+use Rattle.std.proofs.Common.{sym}
 use Rattle.store.specs.View.{view}
 use Rattle.needs.proofs.Lowering.{not_wanted, no_iri, is_new}
 use Rattle.needs.proofs.lowest.is_missing.Goals as goal

@@ -1,4 +1,4 @@
-use Rattle.std.proofs.Common.{◌≡◌, ℕ, ◌+◌, length, Some, Option, sym, refl, ap, ◌∙◌, subst, arith}
+use Rattle.std.proofs.Common.{ℕ, ◌+◌, length, Some, Option, sym, refl, ap, ◌∙◌, subst, arith}
 use Rattle.lexicon.specs.Held.{held}
 use Rattle.lexicon.specs.declared.lexicon.Lexicon.{Lexicon}
 use Rattle.lexicon.proofs.Holding.{held_count}

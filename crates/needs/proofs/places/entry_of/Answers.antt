@@ -1,7 +1,7 @@
-use Rattle.std.proofs.Common.{◌≡◌, Bool, true, false, ◌&&◌, sym, refl, ap, ◌∙◌, ap₂, arith, eq-eqb, ne_eqb}
+use Rattle.std.proofs.Common.{arith, eq-eqb, ne_eqb}
 use Rattle.store.specs.View.{view}
 use Rattle.store.proofs.Recording.{view_count}
-use Rattle.needs.specs.Needs.{is_of, is_spoilt, wanted_at, spoilt}
+use Rattle.needs.specs.Needs.{is_of}
 use Rattle.needs.proofs.Firsts.{first_start, first_more, first_here, first_none, traced_ok}
 use Rattle.needs.proofs.places.entry_of.Goals as goal
 

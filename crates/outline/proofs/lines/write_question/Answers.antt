@@ -1,4 +1,4 @@
-use Rattle.std.proofs.Common.{◌≡◌, decimal, sym, ap}
+use Rattle.std.proofs.Common.{decimal, ap}
 use Rattle.question.specs.declared.question.Question.{Question}
 use Rattle.question.specs.Asking.{asked}
 use Rattle.outline.specs.Outlined.{names_text, pattern_text}

@@ -1,8 +1,8 @@
-use Rattle.partfind.specs.Asking.{places}
+use Rattle.question.specs.Answers.{held}
 use Rattle.partfind.proofs.Settling.{settled}
 use Rattle.partfind.proofs.front.ask.Goals as goal
 
 pub returns : goal.returns
 returns c =
-    settled c.args.front.now c.of-parts.result.question.now c.of-parts.result.pages.now (places c.args.draft.now c.args.judged.now) c.settle.result
-    (places c.settle.new.draft c.settle.new.judged) c.of-parts.ensures c.settle.ensures
+    settled c.args.front.now c.of-parts.result.question.now c.of-parts.result.pages.now (held c.args.draft.now) c.read.result
+    (held c.read.new.self) c.of-parts.ensures c.read.ensures

@@ -1,4 +1,4 @@
-use Rattle.std.proofs.Common.{sym, refl, ap}
+use Rattle.std.proofs.Common.{sym, ap}
 use Rattle.terms.specs.declared.kind.Kind.TheVariants.{Iri, Literal}
 use Rattle.shelf.specs.Contexts.{iri_among}
 use Rattle.shelf.proofs.Documents.{kind_there, kind_past}

@@ -1,4 +1,4 @@
-use Rattle.std.proofs.Common.{◌≡◌, sym, ap, ◌∙◌, arith}
+use Rattle.std.proofs.Common.{arith}
 use Rattle.question.specs.Asking.{asked}
 use Rattle.question.specs.Answers.{term_told}
 use Rattle.lexicon.specs.Held.{held}

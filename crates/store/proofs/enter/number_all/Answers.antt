@@ -1,4 +1,4 @@
-use Rattle.std.proofs.Common.{◌≡◌, map, sym, ap, ◌∙◌, arith, take_all}
+use Rattle.std.proofs.Common.{map, ap, ◌∙◌, arith, take_all}
 use Rattle.question.specs.Asking.{asked}
 use Rattle.question.specs.Answers.{term_told}
 use Rattle.lexicon.specs.Held.{held}

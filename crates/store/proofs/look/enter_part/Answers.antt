@@ -1,9 +1,9 @@
-use Rattle.std.proofs.Common.{◌≡◌, ℕ, ◌-◌, take, sym, ap, ◌∙◌, subst, arith}
+use Rattle.std.proofs.Common.{◌≡◌, ℕ, ◌-◌, take, ap, ◌∙◌, subst, arith}
 use Rattle.terms.specs.Terms.{Term}
 use Rattle.lexicon.specs.Held.{held}
 use Rattle.lexicon.specs.Numbering.{term}
 use Rattle.store.specs.Looking.{Enters}
-use Rattle.store.proofs.Fetching.{read_within, read_term, read_some}
+use Rattle.store.proofs.Fetching.{read_term}
 use Rattle.store.proofs.look.enter_part.Goals as goal
 
 pub returns-in-Ok : goal.returns-in-Ok

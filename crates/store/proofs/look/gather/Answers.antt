@@ -1,4 +1,4 @@
-use Rattle.std.proofs.Common.{◌≡◌, ℕ, ◌<◌, length, get_or, vec_items, sym, refl, ap, ◌∙◌, subst, arith}
+use Rattle.std.proofs.Common.{◌<◌, length, get_or, vec_items, sym, ap, ◌∙◌, arith}
 use Rattle.lexicon.specs.Held.{held}
 use Rattle.lexicon.proofs.Holding.{held_within}
 use Rattle.web.specs.Meaning.{triples}

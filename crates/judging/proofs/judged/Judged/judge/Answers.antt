@@ -1,5 +1,4 @@
-use Rattle.std.proofs.Common.{◌≡◌, ℕ, true, false, sym, refl, ap, ◌∙◌, ap₂, arith}
-use Rattle.grammar.specs.Bounded.{Asks}
+use Rattle.std.proofs.Common.{◌≡◌, ℕ, true, false, sym, refl, ap, ◌∙◌, arith}
 use Rattle.grammar.specs.Judged.{judged, sure_mask}
 use Rattle.grammar.specs.Numbered.{asks}
 use Rattle.question.specs.declared.question.Question.{Question}

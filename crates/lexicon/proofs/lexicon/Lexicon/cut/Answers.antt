@@ -1,5 +1,4 @@
-use Rattle.std.proofs.Common.{◌≡◌, ℕ, ◌<◌, ◌≤◌, List, length, take, vec_items, vec_len, sym, refl, ap, ◌∙◌, subst, arith, length-take, take_all}
-use Rattle.lexicon.specs.declared.part.Part.{Part}
+use Rattle.std.proofs.Common.{◌<◌, length, vec_items, vec_len, sym, ap, ◌∙◌, subst, arith, length-take, take_all}
 use Rattle.lexicon.specs.Parts.{sizes}
 use Rattle.lexicon.specs.Held.{held}
 use Rattle.lexicon.proofs.Cutting.{Laid, laid_take, sizes_take}

@@ -1,4 +1,4 @@
-use Rattle.std.proofs.Common.{◌≡◌, ℕ, suc, ◌+◌, ◌<◌, ◌≤◌, false, List, [], ◌∷◌, ◌++◌, length, Some, vec_items, vec_len, sym, refl, ap, ◌∙◌, subst, arith, length-append}
+use Rattle.std.proofs.Common.{◌≡◌, suc, false, [], ◌∷◌, length, Some, vec_items, vec_len, sym, ap, ◌∙◌, subst, arith, length-append}
 use Rattle.lexicon.specs.declared.part.Part.{Part}
 use Rattle.lexicon.specs.Numbering.{term, number_of, enter, within}
 use Rattle.lexicon.specs.Parts.{sizes}

@@ -1,4 +1,4 @@
-use Rattle.std.proofs.Common.{◌≡◌, Bool, ◌&&◌, get_or, sym, ap, ◌∙◌, ap₂}
+use Rattle.std.proofs.Common.{Bool, ◌&&◌, get_or, ap, ◌∙◌, ap₂}
 use Rattle.terms.specs.declared.kind.Kind.{Kind}
 use Rattle.tokens.specs.Lexed.{same_bytes}
 use Rattle.lexicon.specs.Numbering.{same_kind}

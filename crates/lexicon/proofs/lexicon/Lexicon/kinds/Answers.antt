@@ -1,4 +1,4 @@
-use Rattle.std.proofs.Common.{sym, ◌∙◌}
+use Rattle.std.proofs.Common.{◌∙◌}
 use Rattle.lexicon.proofs.Holding.{held_kinds}
 use Rattle.lexicon.proofs.lexicon.Lexicon.kinds.Goals as goal
 

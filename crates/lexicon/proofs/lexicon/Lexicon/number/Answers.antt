@@ -1,4 +1,4 @@
-use Rattle.std.proofs.Common.{◌≡◌, ◌≤◌, length, sym, ◌∙◌, arith}
+use Rattle.std.proofs.Common.{sym, arith}
 use Rattle.lexicon.specs.Held.{held}
 use Rattle.lexicon.specs.Parts.{no_term}
 use Rattle.lexicon.proofs.Numbers.{number_start, number_more, number_found, number_none}

@@ -1,4 +1,4 @@
-use Rattle.std.proofs.Common.{◌≡◌, ℕ, ◌<◌, None, sym, ap, ◌∙◌, arith}
+use Rattle.std.proofs.Common.{◌≡◌, None, sym, ap, ◌∙◌, arith}
 use Rattle.lexicon.specs.Numbering.{term_at}
 use Rattle.lexicon.specs.Held.{held}
 use Rattle.lexicon.proofs.Numbers.{term_zero, term_past}

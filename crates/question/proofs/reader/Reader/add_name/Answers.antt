@@ -1,4 +1,4 @@
-use Rattle.std.proofs.Common.{◌≡◌, length, sym, refl, ap, ◌∙◌, arith}
+use Rattle.std.proofs.Common.{length, refl, ap, ◌∙◌, arith}
 use Rattle.question.proofs.Admitting.{ninth, name_long, name_new}
 use Rattle.question.proofs.reader.Reader.add_name.Goals as goal
 

@@ -1,4 +1,4 @@
-use Rattle.std.proofs.Common.{◌≡◌, vec_items, vec_len, refl, arith}
+use Rattle.std.proofs.Common.{vec_items, vec_len, refl, arith}
 use Rattle.question.specs.Behind.{path_from, path_terms}
 use Rattle.question.proofs.Fitting.{pushed}
 use Rattle.question.proofs.reader.Reader.add_path.Goals as goal

@@ -1,4 +1,4 @@
-use Rattle.std.proofs.Common.{◌≡◌, vec_items, vec_len, refl, arith}
+use Rattle.std.proofs.Common.{vec_items, vec_len, refl, arith}
 use Rattle.question.specs.Behind.{pattern_from, pattern_paths, pattern_terms, pattern_names}
 use Rattle.question.proofs.Fitting.{pushed}
 use Rattle.question.proofs.reader.Reader.add_pattern.Goals as goal

@@ -1,4 +1,4 @@
-use Rattle.std.proofs.Common.{◌≡◌, length, sym, refl, ap, ◌∙◌, arith}
+use Rattle.std.proofs.Common.{length, refl, ap, ◌∙◌, arith}
 use Rattle.question.proofs.Admitting.{term_long, term_kept}
 use Rattle.question.proofs.reader.Reader.admit_term.Goals as goal
 

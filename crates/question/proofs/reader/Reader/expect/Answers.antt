@@ -1,4 +1,4 @@
-use Rattle.std.proofs.Common.{sym, ◌∙◌, arith}
+use Rattle.std.proofs.Common.{sym, ◌∙◌}
 use Rattle.question.proofs.Taking.{took, ready_after, unlike, over, not_last}
 use Rattle.question.proofs.reader.Reader.expect.Goals as goal
 

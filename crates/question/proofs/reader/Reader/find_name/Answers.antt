@@ -1,5 +1,4 @@
-use Rattle.std.proofs.Common.{◌≡◌, ◌<◌, ◌≤◌, Bool, length, get_or, vec_items, sym, refl, ap, ◌∙◌, arith}
-use Rattle.tokens.specs.Lexed.{same_bytes}
+use Rattle.std.proofs.Common.{◌<◌, ◌≤◌, length, get_or, vec_items, ap, ◌∙◌, arith}
 use Rattle.question.specs.Arena.{name_of}
 use Rattle.question.proofs.Bytes.{not_here, here, stands_there, nowhere, tested}
 use Rattle.question.proofs.reader.Reader.find_name.Goals as goal

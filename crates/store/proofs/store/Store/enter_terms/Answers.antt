@@ -1,6 +1,5 @@
-use Rattle.std.proofs.Common.{◌≡◌, vec_items, sym, refl, ap, ◌∙◌}
+use Rattle.std.proofs.Common.{vec_items}
 use Rattle.question.specs.Asking.{asked}
-use Rattle.lexicon.specs.Held.{held}
 use Rattle.store.specs.View.{view}
 use Rattle.store.proofs.Asking.{entered_all, numbered_all, entered_none}
 use Rattle.store.proofs.store.Store.enter_terms.Goals as goal

@@ -1,4 +1,4 @@
-use Rattle.std.proofs.Common.{◌≡◌, ℕ, ◌-◌, List, [], ◌∷◌, length, take, vec_items, vec_len, sym, refl, ap, ◌∙◌, subst, arith, length-append}
+use Rattle.std.proofs.Common.{◌≡◌, ℕ, ◌-◌, List, [], ◌∷◌, length, take, vec_items, sym, refl, ap, ◌∙◌, subst, arith, length-append}
 use Rattle.shelf.specs.declared.items.Noted.{Noted}
 use Rattle.lexicon.specs.Numbering.{term_at}
 use Rattle.web.specs.Agreement.{tells_of}
