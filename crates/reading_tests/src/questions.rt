@@ -118,7 +118,14 @@ fn questions(rt: HostRuntime) -> Result<(), Fail> {
     let mut draft = Draft::new(heap)?;
     let mut out = Vec::new(heap);
     for (text, line) in ROWS.iter() {
-        check_line(&rt, &mut draft, text.as_bytes(), line.as_bytes(), &mut out, *text)?;
+        check_line(
+            &rt,
+            &mut draft,
+            text.as_bytes(),
+            line.as_bytes(),
+            &mut out,
+            *text,
+        )?;
     }
     Ok(())
 }

@@ -175,7 +175,14 @@ fn refusals(rt: HostRuntime) -> Result<(), Fail> {
     let heap = rt.alloc();
     let mut draft = Draft::new(heap)?;
     let mut out = Vec::new(heap);
-    check_line(&rt, &mut draft, FIRST.as_bytes(), KEPT.as_bytes(), &mut out, FIRST)?;
+    check_line(
+        &rt,
+        &mut draft,
+        FIRST.as_bytes(),
+        KEPT.as_bytes(),
+        &mut out,
+        FIRST,
+    )?;
     for (text, line) in REFUSED.iter() {
         check_refused(&rt, &mut draft, text.as_bytes(), line, &mut out, *text)?;
     }
@@ -188,12 +195,26 @@ fn limits_passed(rt: HostRuntime) -> Result<(), Fail> {
     let mut draft = Draft::new(heap)?;
     let mut text = Vec::new(heap);
     let mut out = Vec::new(heap);
-    check_line(&rt, &mut draft, FIRST.as_bytes(), KEPT.as_bytes(), &mut out, FIRST)?;
+    check_line(
+        &rt,
+        &mut draft,
+        FIRST.as_bytes(),
+        KEPT.as_bytes(),
+        &mut out,
+        FIRST,
+    )?;
     for (parts, line) in REFUSED_LONG.iter() {
         spell(*parts, &mut text)?;
         let (head, piece, count, tail) = *parts;
         let note = format!(in heap; "{head}, {piece} {count} times, {tail}")?;
-        check_refused(&rt, &mut draft, text.as_slice(), line, &mut out, note.as_str())?;
+        check_refused(
+            &rt,
+            &mut draft,
+            text.as_slice(),
+            line,
+            &mut out,
+            note.as_str(),
+        )?;
     }
     Ok(())
 }
@@ -210,7 +231,14 @@ fn limits_met(rt: HostRuntime) -> Result<(), Fail> {
         spell(*wanted, &mut line)?;
         let (head, piece, count, tail) = *parts;
         let note = format!(in heap; "{head}, {piece} {count} times, {tail}")?;
-        check_line(&rt, &mut draft, text.as_slice(), line.as_slice(), &mut out, note.as_str())?;
+        check_line(
+            &rt,
+            &mut draft,
+            text.as_slice(),
+            line.as_slice(),
+            &mut out,
+            note.as_str(),
+        )?;
     }
     Ok(())
 }

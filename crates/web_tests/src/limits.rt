@@ -25,7 +25,10 @@ fn longest_file(rt: HostRuntime) -> Result<(), Fail> {
         Err(_) => return Err(Fail::new("a file at the limit is refused")),
         Ok(pages) => write_web(heap, &pages, b"m:1", &mut out)?,
     }
-    assert_eq!(rt; out.as_slice(), b"found 1 <a> <b> \"cd\" 14 14 14 15".as_slice());
+    assert_eq!(rt;
+        out.as_slice(),
+        b"found 1 <a> <b> \"cd\" 14 14 14 15".as_slice()
+    );
     fill(65537, &mut file)?;
     match Pages::new(file.as_slice()) {
         Err(refused) => {
