@@ -17,6 +17,7 @@ use Rattle.question.specs.declared.node.End.TheVariants as end
 use Rattle.question.specs.declared.node.PatternNode.{PatternNode}
 use Rattle.question.specs.declared.node.PatternNode.TheVariants as pattern
 use Rattle.question.specs.Arena.{name_of, path_of, paths_of, pattern_of, patterns_of}
+use Rattle.question.specs.Nodes.{env_of_names}
 use Rattle.question.specs.Asking.{asked}
 use Rattle.question.specs.Answers.{Told}
 use Rattle.question.specs.Behind.{path_from, pattern_from, pattern_names, end_names}
@@ -41,10 +42,10 @@ PatternThere q i n = Told (λ (x y : PatternNode). x ≡ y) (vec_items q.pattern
 pub judges_as : (q : Question) (i : ℕ) (n m : PatternNode) → PatternThere q i n → n ≡ m → (fixed : ℕ) (r : Option ℕ) → Judges (numbered (asked q).names (pattern_of (env_of q) (patterns_of (env_of q) (vec_items q.patterns)) m)) fixed r → Judges (asks_at q i) fixed r
 judges_as q i n m t e fixed r h =
     let meant = pattern_of (env_of q) (patterns_of (env_of q) (vec_items q.patterns)) in
-    subst (λ p. Judges (numbered (asked q).names p) fixed r) (ap meant (sym e) ∙ sym (pattern_is_lem (env_of q) q i n t)) h
+    subst (λ p. Judges (numbered (asked q).names p) fixed r) (ap meant (sym e) ∙ sym (pattern_is_lem (env_of_names (env_of q)) q i n t)) h
 
 pub nothing_judged : (q : Question) (i fixed : ℕ) → length (vec_items q.patterns) ≤ i → Judges (asks_at q i) fixed (Some 0)
-nothing_judged q i fixed le = subst (λ p. Judges (numbered (asked q).names p) fixed (Some 0)) (sym (no_pattern (env_of q) q i le)) (refl, refl)
+nothing_judged q i fixed le = subst (λ p. Judges (numbered (asked q).names p) fixed (Some 0)) (sym (no_pattern (env_of_names (env_of q)) q i le)) (refl, refl)
 
 pub pattern_above : (q : Question) (i : ℕ) (n m : PatternNode) → PatternThere q i n → n ≡ m → pattern_from m ≤ i
 pattern_above q i n m t e = omega (arith, pattern_behind q i n t, ap pattern_from e)

@@ -14,7 +14,7 @@ use Rattle.question.specs.declared.node.End.{End}
 use Rattle.question.specs.declared.node.End.TheVariants as end
 use Rattle.question.specs.declared.node.PatternNode.{PatternNode}
 use Rattle.question.specs.declared.node.PatternNode.TheVariants as pattern
-use Rattle.question.specs.Arena.{path_at, paths_of, path_of, patterns_of, pattern_of, end_of}
+use Rattle.question.specs.Nodes.{path_at, paths_of, path_of, patterns_of, pattern_of, end_of, env_of_names}
 use Rattle.question.specs.Asking.{asked}
 use Rattle.question.specs.Behind.{path_from, pattern_from, pattern_names, end_names}
 use Rattle.question.specs.Parts.{env_of, end_at}
@@ -72,8 +72,8 @@ same_mask f q (end.Variable v) d le = ap (λ n. 2 ^ n) (sym (place_at (asked q).
 
 -- what a node's verdict says of numbers and of names
 record SameNode (numbers : List ℕ) (q : Question) (n : PatternNode) : Type 0 where
-  verdict : (m : ℕ) → judged (pattern_of (by_number numbers q) (patterns_of (by_number numbers q) (vec_items q.patterns)) n) m ≡ judged (numbered (asked q).names (pattern_of (env_of q) (patterns_of (env_of q) (vec_items q.patterns)) n)) m
-  mask : sure_mask (pattern_of (by_number numbers q) (patterns_of (by_number numbers q) (vec_items q.patterns)) n) ≡ sure_mask (numbered (asked q).names (pattern_of (env_of q) (patterns_of (env_of q) (vec_items q.patterns)) n))
+  verdict : (m : ℕ) → judged (pattern_of (by_number numbers q) (patterns_of (by_number numbers q) (vec_items q.patterns)) n) m ≡ judged (numbered (asked q).names (pattern_of (env_of_names (env_of q)) (patterns_of (env_of_names (env_of q)) (vec_items q.patterns)) n)) m
+  mask : sure_mask (pattern_of (by_number numbers q) (patterns_of (by_number numbers q) (vec_items q.patterns)) n) ≡ sure_mask (numbered (asked q).names (pattern_of (env_of_names (env_of q)) (patterns_of (env_of_names (env_of q)) (vec_items q.patterns)) n))
 
 same_pattern_node : (numbers : List ℕ) (q : Question) (i : ℕ) (n : PatternNode) → distinct (asked q).names ≡ true → pattern_from n ≤ i → pattern_names n ≤ length (asked q).names → ((j : ℕ) → j < i → SamePattern numbers q j) → SameNode numbers q n
 same_pattern_node numbers q i pattern.Empty d le names h = record { verdict = λ m. refl; mask = refl }
@@ -111,13 +111,13 @@ below_pattern numbers q d (suc n) i lt = go (ltb i (length (vec_items q.patterns
     go false e h =
         let past = ltb-false i (length (vec_items q.patterns)) e in
         let x = no_pattern (by_number numbers q) q i past in
-        let y = ap (numbered (asked q).names) (no_pattern (env_of q) q i past) in
+        let y = ap (numbered (asked q).names) (no_pattern (env_of_names (env_of q)) q i past) in
         ((λ m. ap (λ p. judged p m) x ∙ sym (ap (λ p. judged p m) y)), ap sure_mask x ∙ sym (ap sure_mask y))
     go true e h =
         let node = get_or (vec_items q.patterns) i pattern.Empty in
         let t = pattern_there q i (ltb-true i (length (vec_items q.patterns)) e) in
         let x = pattern_is_lem (by_number numbers q) q i node t in
-        let y = ap (numbered (asked q).names) (pattern_is_lem (env_of q) q i node t) in
+        let y = ap (numbered (asked q).names) (pattern_is_lem (env_of_names (env_of q)) q i node t) in
         let same = same_pattern_node numbers q i node d (pattern_behind q i node t) (ends_there q i node node t refl) h in
         ((λ m. ap (λ p. judged p m) x ∙ same.verdict m ∙ sym (ap (λ p. judged p m) y)), ap sure_mask x ∙ same.mask ∙ sym (ap sure_mask y))
 

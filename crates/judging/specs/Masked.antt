@@ -8,7 +8,7 @@ use Rattle.grammar.specs.Numbered.{numbered, numbered_end}
 use Rattle.question.specs.declared.question.Question.{Question}
 use Rattle.question.specs.declared.node.End.{End}
 use Rattle.question.specs.declared.node.End.TheVariants as end
-use Rattle.question.specs.Arena.{EnvOf, path_at, paths_of, pattern_at, patterns_of}
+use Rattle.question.specs.Nodes.{EnvOf, path_at, paths_of, pattern_at, patterns_of}
 use Rattle.question.specs.Asking.{asked}
 use Rattle.question.specs.Parts.{end_at, path_is, pattern_is}
 

@@ -7,7 +7,8 @@ use Rattle.question.specs.declared.node.PathNode.{PathNode}
 use Rattle.question.specs.declared.node.PathNode.TheVariants as path
 use Rattle.question.specs.declared.node.PatternNode.{PatternNode}
 use Rattle.question.specs.declared.node.PatternNode.TheVariants as pattern
-use Rattle.question.specs.Arena.{grow, EnvOf, path_at, pattern_at, path_of, pattern_of, paths_of, patterns_of}
+use Rattle.question.specs.Arena.{grow}
+use Rattle.question.specs.Nodes.{EnvOf, path_at, pattern_at, path_of, pattern_of, paths_of, patterns_of}
 use Rattle.question.specs.Answers.{Told}
 use Rattle.question.specs.Behind.{path_from, pattern_from}
 
