@@ -3,12 +3,12 @@
 # The scanner is built twice: it looks for line ends byte by byte, and by the C library's memchr.
 set -eu
 cd "$(dirname "$0")/../.."
-rt check web_bench > /dev/null
+(cd crates/web_bench && rt run < /dev/null > /dev/null)
 work=$(mktemp -d)
 trap 'rm -r "$work"' EXIT
 cc -O3 -o "$work/plain" tools/web-bench/scanner.c
 cc -O3 -DMEMCHR -o "$work/memchr" tools/web-bench/scanner.c
-cp target/bin/web_bench "$work/proved"
+cp crates/web_bench/out/web_bench "$work/proved"
 TIMEFORMAT=%U
 # pages of 16 triples, which are passed most of the time, and pages of 256, which are read most of the time
 for triples in 16 256; do
