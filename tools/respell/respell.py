@@ -17,8 +17,13 @@ GENERATED = re.compile(r"^(returns|overflow|bounds|slice_bounds|offset_bounds|in
 TOKEN = re.compile(r"[^\s(){}\[\].,;]+")
 
 
+# Names that an import gives.
+ALIAS = re.compile(r" as ([a-z][\w']*-[\w'-]+)")
+
+
 def files():
-    return sorted(glob.glob("crates/*/specs/**/*.antt", recursive=True) + glob.glob("crates/*/proofs/**/*.antt", recursive=True))
+    found = glob.glob("crates/*/specs/**/*.antt", recursive=True) + glob.glob("crates/*/proofs/**/*.antt", recursive=True)
+    return sorted(path for path in found if "/out/" not in path)
 
 
 def camel(name):
@@ -34,7 +39,7 @@ def snake(name):
 
 
 # Where two names would fall together, the definition has the plain one and the lemma `_lem`.
-BY_HAND = {"lawfulTerm": "lawful_term", "asksNothing": "asks_nothing", "Sum": "sum_by_row", "eachAfter": "each_after", "each_after": "each_after_lem", "name-at": "name_at_lem", "listedIn": "listed_in",
+BY_HAND = {"Goes_on": "GoesOn", "lawfulTerm": "lawful_term", "asksNothing": "asks_nothing", "Sum": "sum_by_row", "eachAfter": "each_after", "each_after": "each_after_lem", "name-at": "name_at_lem", "listedIn": "listed_in",
            "end-mask": "end_mask_lem", "end-terms": "end_terms_lem", "first-names": "first_names_lem", "fixed-by": "fixed_by_lem",
            "iri-term": "iri_term_lem", "is-page": "is_page_lem", "judged-by": "judged_by_lem", "no-term": "no_term_lem", "path-is": "path_is_lem",
            "pattern-is": "pattern_is_lem", "pattern-terms": "pattern_terms_lem", "second-names": "second_names_lem", "sure-count": "sure_count_lem",
@@ -46,7 +51,12 @@ def declared():
     found = {}
     for path in files():
         lines = open(path).read().split("\n")
+        found.update((name, False) for name in ALIAS.findall("\n".join(l for l in lines if l.startswith("use "))))
         for i, line in enumerate(lines):
+            several = re.match(r"^\s+((?:[\w'-]+ )+[\w'-]+) : [A-Z]\w*$", line)
+            if several and not line.strip().startswith("let "):
+                found.update((name, found.get(name, False)) for name in several.group(1).split())
+                continue
             m = DECLARATION.match(line)
             if re.match(r"^(pub )?(data|record) ", line):
                 head = re.match(r"^(?:pub )?(?:data|record) ([^\s:]+)", line).group(1)

@@ -10,7 +10,7 @@ use Rattle.semantics.specs.Graphs.{Graph, Closed, pair}
 use Rattle.semantics.proofs.Lists.{clash}
 use Rattle.semantics.proofs.Links.{pair_ends, star_onward, star_backward, star_here, star_after, star_before}
 use Rattle.walks.specs.Plans.{from_left, allows, Asking, path, Leads, star_onward as onwards, star_backward as backwards}
-use Rattle.walks.specs.Crowds.{Apart, Crowded, pairs, onward as crowd-onward, backward as crowd-backward, TooMany}
+use Rattle.walks.specs.Crowds.{Apart, Crowded, pairs, onward as crowd_onward, backward as crowd_backward, TooMany}
 use Rattle.solving.specs.Solved.{then, pair_row, left_of, right_of, onward, backward, closed, allows_if, allowed, itself, walked}
 use Rattle.answering.specs.Promises.{rows_in}
 use Rattle.answering.proofs.Tables.{Tidy, entry_row, row_entry}
@@ -137,7 +137,7 @@ module _ {A : Type 0} {T : Terms A} (x : Exact T) (G : Graph A) (c : Closed T G)
 
         go : (o : Option (List A × Bag A K)) → Shut seen o → Walks T G s (star p) l r (Some a) y seen (then o (λ d. Some (d.0, allowed T s right_of y d.1)))
         go None (inl k) = much_on (onwards from a k.0 (x.told a) k.1) k.2
-        go None (inr k) = much_here (crowd-onward from a (x.told a) (crowd_along RowOf (λ m. pair T G (star p) a m ≡ true) (λ q m. q ≡ both a m)
+        go None (inr k) = much_here (crowd_onward from a (x.told a) (crowd_along RowOf (λ m. pair T G (star p) a m ≡ true) (λ q m. q ≡ both a m)
             (λ q i. (i.0, i.1, i.2)) (λ q t m i j. i ∙ sym j) k))
         go (Some o) k =
             let n = allowed_plain T ctx s right_of y RowOf o.1 k.plain in
@@ -171,10 +171,10 @@ module _ {A : Type 0} {T : Terms A} (x : Exact T) (G : Graph A) (c : Closed T G)
             much : Plain s RowOf o.1 → Holds s (path_sum T G s (star p) (Some a) y) (PathRow T G (star p) (Some a) y) (allowed T s right_of y o.1)
                 → Crowded T G (path l r (star p) (Some a) y) → ⊥
             much n g (pairs d) = holds_calm (path_sum T G s (star p) (Some a) y) (PathRow T G (star p) (Some a) y) (allowed T s right_of y o.1) g (crowd_rows T G (star p) (Some a) y d)
-            much n g (crowd-onward d b i k) = plain_calm RowOf o.1 n (crowd_along (λ m. pair T G (star p) b m ≡ true) RowOf (λ m q. q ≡ both a m)
+            much n g (crowd_onward d b i k) = plain_calm RowOf o.1 n (crowd_along (λ m. pair T G (star p) b m ≡ true) RowOf (λ m q. q ≡ both a m)
                 (λ m j. (both a m, (m, subst (λ z. pair T G (star p) z m ≡ true) (sym (x.tells a b i)) j, refl), refl))
                 (λ m v q j u. same_second m v (sym j ∙ u)) k)
-            much n g (crowd-backward d b i k) = clash from d
+            much n g (crowd_backward d b i k) = clash from d
 
   -- ---- from the right end
 
@@ -232,7 +232,7 @@ module _ {A : Type 0} {T : Terms A} (x : Exact T) (G : Graph A) (c : Closed T G)
 
         go : (o : Option (List A × Bag A K)) → Shut' seen o → Walks T G s (star p) l r y (Some a) seen (then o (λ d. Some (d.0, allowed T s left_of y d.1)))
         go None (inl k) = much_on (backwards from k.0 a (x.told a) k.1) k.2
-        go None (inr k) = much_here (crowd-backward from a (x.told a) (crowd_along RowOf (λ m. pair T G (star p) m a ≡ true) (λ q m. q ≡ both m a)
+        go None (inr k) = much_here (crowd_backward from a (x.told a) (crowd_along RowOf (λ m. pair T G (star p) m a ≡ true) (λ q m. q ≡ both m a)
             (λ q i. (i.0, i.1, i.2)) (λ q t m i j. i ∙ sym j) k))
         go (Some o) k =
             let n = allowed_plain T ctx s left_of y RowOf o.1 k.plain in
@@ -266,7 +266,7 @@ module _ {A : Type 0} {T : Terms A} (x : Exact T) (G : Graph A) (c : Closed T G)
             much : Plain s RowOf o.1 → Holds s (path_sum T G s (star p) y (Some a)) (PathRow T G (star p) y (Some a)) (allowed T s left_of y o.1)
                 → Crowded T G (path l r (star p) y (Some a)) → ⊥
             much n g (pairs d) = holds_calm (path_sum T G s (star p) y (Some a)) (PathRow T G (star p) y (Some a)) (allowed T s left_of y o.1) g (crowd_rows T G (star p) y (Some a) d)
-            much n g (crowd-backward d b i k) = plain_calm RowOf o.1 n (crowd_along (λ m. pair T G (star p) m b ≡ true) RowOf (λ m q. q ≡ both m a)
+            much n g (crowd_backward d b i k) = plain_calm RowOf o.1 n (crowd_along (λ m. pair T G (star p) m b ≡ true) RowOf (λ m q. q ≡ both m a)
                 (λ m j. (both m a, (m, subst (λ z. pair T G (star p) m z ≡ true) (sym (x.tells a b i)) j, refl), refl))
                 (λ m v q j u. same_first m v (sym j ∙ u)) k)
-            much n g (crowd-onward d b i k) = clash d from
+            much n g (crowd_onward d b i k) = clash d from

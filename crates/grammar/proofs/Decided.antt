@@ -2,14 +2,14 @@
 use Rattle.std.proofs.Common.{◌≡◌, ℕ, zero, ◌≤◌, Bool, true, false, cond, ltb, leb, ◌⊎◌, List, [], ◌∷◌, ◌++◌, length, Some, None, Option, sym, refl, ap, ◌∙◌, subst, subst₂, inl, inr, append_assoc, append-nil, arith}
 use borrow.Author.Tests.{clash}
 use Rattle.std.proofs.str.Laws.{order}
-use Rattle.tokens.specs.Words.{Word, iri, literal, name, open-brace, close-brace, open-paren, close-paren, dot, bar, slash, caret, star, bang, optional, union, wrong, end, sort, same}
+use Rattle.tokens.specs.Words.{Word, iri, literal, name, open_brace, close_brace, open_paren, close_paren, dot, bar, slash, caret, star, bang, optional, union, wrong, end, sort, same}
 use Rattle.tokens.specs.Lexed.{Spot, tokens}
 use Rattle.grammar.specs.declared.refusal.Reason.{Reason}
 use Rattle.grammar.specs.declared.refusal.Reason.TheVariants.{NoQuestion, TooDeep, TooManyVariables, TooLong}
 use Rattle.grammar.specs.declared.refusal.Refusal.{Refusal}
 use Rattle.grammar.specs.declared.refusal.Refusal.TheVariants.{TextTooLong, TooManyNodes, At}
 use Rattle.grammar.specs.Syntax.{nodes}
-use Rattle.grammar.specs.Grammar.{is-question, Tree, spell, means}
+use Rattle.grammar.specs.Grammar.{is_question, Tree, spell, means}
 use Rattle.grammar.specs.Limits.{Seen, nothing, known, after, gather, at_most, limit, Clear}
 use Rattle.grammar.specs.Machine.{Symbol, a, Reaches}
 use Rattle.grammar.specs.Reading.{Asked, words, Lawful, Question, Begins, Refuses, Refused, EveryText}
@@ -23,14 +23,14 @@ use Rattle.grammar.proofs.Verdicts.{begins_front, begins_through}
 
 -- words of a question
 abbrev Whole : List Word → Type 0
-Whole ws = (t : Tree is-question) × (ws ≡ spell t [])
+Whole ws = (t : Tree is_question) × (ws ≡ spell t [])
 
 -- words that go on as no question does
 abbrev Broken : List Word → Type 0
 Broken ws = (v : List Word) × (x : Word) × (z : List Word) × (ws ≡ v ++ x ∷ z) × Begins v × (Begins (v ++ x ∷ []) → ⊥)
 
 abbrev Run : List Word → List Symbol → List Word → Type 0
-Run ws τ z = Reaches (a is-question ∷ []) ws τ z
+Run ws τ z = Reaches (a is_question ∷ []) ws τ z
 
 -- nothing is to come: nothing is left
 all_read : (v u : List Word) → ended (v ++ u) ≡ true → Run (v ++ u) [] u → Whole (v ++ u)
@@ -93,10 +93,10 @@ limit_apart : (s : Seen) (x : Word) → grammatical (limit s x) ≡ false
 limit_apart s (iri x) = either (leb (length x) 128) _ _ refl refl
 limit_apart s (literal x) = either (leb (length x) 128) _ _ refl refl
 limit_apart s (name x) = either (known x s.names) None _ refl (either (ltb (length s.names) 8) (at_most 16 (length x)) (Some TooManyVariables) (either (leb (length x) 16) _ _ refl refl) refl)
-limit_apart s open-brace = either (ltb s.depth 16) _ _ refl refl
-limit_apart s close-brace = refl
-limit_apart s open-paren = either (ltb s.depth 16) _ _ refl refl
-limit_apart s close-paren = refl
+limit_apart s open_brace = either (ltb s.depth 16) _ _ refl refl
+limit_apart s close_brace = refl
+limit_apart s open_paren = either (ltb s.depth 16) _ _ refl refl
+limit_apart s close_paren = refl
 limit_apart s dot = refl
 limit_apart s bar = refl
 limit_apart s slash = refl
@@ -158,7 +158,7 @@ module _ (text : List ℕ) (short : length text ≤ 2048) where
       let goes = subst Begins is b in
       faulty p x (u ++ z) r (e ∙ ap (λ k. k ++ z) is ∙ append_assoc p (x ∷ u) z) (begins_front p (x ∷ u) goes) c (refuses r p x (begins_through p x u goes) l)
 
-  sized : (t : Tree is-question) → Lawful text t → Verdict text
+  sized : (t : Tree is_question) → Lawful text t → Verdict text
   sized t l =
       elim (order 64 (nodes (means t))) [
         | inl h ↦ inr (TooManyNodes, (t, l, h))
@@ -184,7 +184,7 @@ module _ (text : List ℕ) (short : length text ≤ 2048) where
 
   short_text : Verdict text
   short_text =
-      elim (judged (words (tokens text)) [] (a is-question ∷ []) (cut_ended 0 zero text) reach_stay) [
+      elim (judged (words (tokens text)) [] (a is_question ∷ []) (cut_ended 0 zero text) reach_stay) [
         | inl w ↦ whole_text w
         | inr b ↦ inr (broken_text b)
       ]

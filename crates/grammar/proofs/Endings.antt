@@ -2,9 +2,9 @@
 use Rattle.std.proofs.Common.{◌≡◌, ℕ, zero, suc, ◌+◌, ◌-◌, Bool, true, false, cond, List, [], ◌∷◌, ◌++◌, refl, ◌∙◌}
 use borrow.Author.Tests.{clash}
 use Rattle.terms.specs.Bytes.{blank_byte}
-use Rattle.tokens.specs.Words.{Word, end as end-word, close-brace, close-paren, dot}
+use Rattle.tokens.specs.Words.{Word, end as end_word, close_brace, close_paren, dot}
 use Rattle.tokens.specs.Lexed.{Spot, final, put, cut, lexeme}
-use Rattle.grammar.specs.Grammar.{Kind, is-question, is-group, is-items, is-item, is-groups, is-unions, is-line, is-end, is-path, is-alternatives, is-sequence, is-steps, is-step, is-suffix, is_base, is-negation, is-members, Tree, whole, braces, no_items, items, a_line, an_option, some_groups, groups, no_unions, unions, ends, end_iri, end_literal, end_name, path, no_alternatives, alternatives, chain, no_steps, steps, forward, backward, once, repeated, predicate, other, brackets, one, several, no_members, members, spell}
+use Rattle.grammar.specs.Grammar.{Kind, is_question, is_group, is_items, is_item, is_groups, is_unions, is_line, is_end, is_path, is_alternatives, is_sequence, is_steps, is_step, is_suffix, is_base, is_negation, is_members, Tree, whole, braces, no_items, items, a_line, an_option, some_groups, groups, no_unions, unions, ends, end_iri, end_literal, end_name, path, no_alternatives, alternatives, chain, no_steps, steps, forward, backward, once, repeated, predicate, other, brackets, one, several, no_members, members, spell}
 use Rattle.grammar.specs.Reading.{words}
 
 abbrev none : List Word → Bool
@@ -53,27 +53,27 @@ cut_ended i zero (b ∷ bs) = either (blank_byte b) _ _ (cut_ended (i + 1) zero 
 
 -- only a question has the last word
 abbrev closing : Kind → List Word → List Word
-closing is-question w = end-word ∷ w
-closing is-group w = w
-closing is-items w = w
-closing is-item w = w
-closing is-groups w = w
-closing is-unions w = w
-closing is-line w = w
-closing is-end w = w
-closing is-path w = w
-closing is-alternatives w = w
-closing is-sequence w = w
-closing is-steps w = w
-closing is-step w = w
-closing is-suffix w = w
+closing is_question w = end_word ∷ w
+closing is_group w = w
+closing is_items w = w
+closing is_item w = w
+closing is_groups w = w
+closing is_unions w = w
+closing is_line w = w
+closing is_end w = w
+closing is_path w = w
+closing is_alternatives w = w
+closing is_sequence w = w
+closing is_steps w = w
+closing is_step w = w
+closing is_suffix w = w
 closing is_base w = w
-closing is-negation w = w
-closing is-members w = w
+closing is_negation w = w
+closing is_members w = w
 
 spell_ended : {k : Kind} (t : Tree k) (w : List Word) → ended (spell t w) ≡ ended (closing k w)
-spell_ended (whole g) w = spell_ended g (end-word ∷ w)
-spell_ended (braces is) w = spell_ended is (close-brace ∷ w)
+spell_ended (whole g) w = spell_ended g (end_word ∷ w)
+spell_ended (braces is) w = spell_ended is (close_brace ∷ w)
 spell_ended no_items w = refl
 spell_ended (items i is) w = spell_ended i (spell is w) ∙ spell_ended is w
 spell_ended (a_line l) w = spell_ended l w
@@ -98,11 +98,11 @@ spell_ended once w = refl
 spell_ended repeated w = refl
 spell_ended (predicate x) w = refl
 spell_ended (other n) w = spell_ended n w
-spell_ended (brackets p) w = spell_ended p (close-paren ∷ w)
+spell_ended (brackets p) w = spell_ended p (close_paren ∷ w)
 spell_ended (one x) w = refl
 spell_ended (several x ms) w = spell_ended ms w
 spell_ended no_members w = refl
 spell_ended (members x ms) w = spell_ended ms w
 
-pub question_ended : (t : Tree is-question) → ended (spell t []) ≡ true
+pub question_ended : (t : Tree is_question) → ended (spell t []) ≡ true
 question_ended t = spell_ended t []

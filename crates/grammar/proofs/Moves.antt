@@ -2,7 +2,7 @@
 use Rattle.std.proofs.Common.{◌≡◌, ℕ, zero, suc, ◌+◌, true, false, cond, eqb, List, [], ◌∷◌, ◌++◌, sym, refl, ap, ◌∙◌, suc-add, zero-add, eq-eqb, ne_eqb, eqb-true}
 use Rattle.tokens.specs.declared.token.Token.{Token}
 use Rattle.tokens.specs.declared.token.Token.TheVariants.{Iri, Literal, Variable, OpenBrace, CloseBrace, OpenParen, CloseParen, Dot, Bar, Slash, Caret, Star, Bang, Optional, Union, Wrong, End}
-use Rattle.tokens.specs.Words.{Word, iri, literal, name, open-brace, close-brace, open-paren, close-paren, dot, bar, slash, caret, star, bang, optional, union, wrong, end, sort, content, saying, code, same}
+use Rattle.tokens.specs.Words.{Word, iri, literal, name, open_brace, close_brace, open_paren, close_paren, dot, bar, slash, caret, star, bang, optional, union, wrong, end, sort, content, saying, code, same}
 use Rattle.grammar.specs.Grammar.{Kind}
 use Rattle.grammar.specs.Machine.{Symbol, the, a, parts, Config, at, lead, move, run, Reaches}
 
@@ -50,10 +50,10 @@ pub says_is : (x : Word) → saying (sort x) (content x) ≡ x
 says_is (iri x) = refl
 says_is (literal x) = refl
 says_is (name x) = refl
-says_is open-brace = refl
-says_is close-brace = refl
-says_is open-paren = refl
-says_is close-paren = refl
+says_is open_brace = refl
+says_is close_brace = refl
+says_is open_paren = refl
+says_is close_paren = refl
 says_is dot = refl
 says_is bar = refl
 says_is slash = refl

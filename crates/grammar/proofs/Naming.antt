@@ -3,7 +3,7 @@ use Rattle.std.proofs.Common.{◌≡◌, List, [], length, Some, None, Option, s
 use Rattle.tokens.specs.Words.{Word}
 use Rattle.tokens.specs.Lexed.{tokens}
 use Rattle.grammar.specs.Syntax.{variable, line, and, union, opt}
-use Rattle.grammar.specs.Grammar.{Kind, is-question, is-group, is-items, is-item, is-groups, is-unions, is-line, is-end, is-path, is-alternatives, is-sequence, is-steps, is-step, is-suffix, is_base, is-negation, is-members}
+use Rattle.grammar.specs.Grammar.{Kind, is_question, is_group, is_items, is_item, is_groups, is_unions, is_line, is_end, is_path, is_alternatives, is_sequence, is_steps, is_step, is_suffix, is_base, is_negation, is_members}
 use Rattle.grammar.specs.Grammar.{Tree, whole, braces, no_items, items, a_line, an_option, some_groups, groups, no_unions, unions, ends, end_iri, end_literal, end_name, path, no_alternatives, alternatives, chain, no_steps, steps, forward, backward, once, repeated, predicate, other, brackets, one, several, no_members, members}
 use Rattle.grammar.specs.Grammar.{spell, means, Meaning, Name, Ends, Patterns, joined, or_empty}
 use Rattle.grammar.specs.Limits.{nothing, gather}
@@ -23,23 +23,23 @@ KeptSome ns None = Unit {0}
 KeptSome ns (Some p) = Kept ns p
 
 abbrev Says : (k : Kind) → List Name → Meaning k → Type 0
-Says is-question ns m = Kept ns m
-Says is-group ns m = Kept ns m
-Says is-items ns m = (l : Option Patterns) → KeptSome ns l → KeptSome ns (m l)
-Says is-item ns m = (l : Option Patterns) → KeptSome ns l → Kept ns (m l)
-Says is-groups ns m = Kept ns m
-Says is-unions ns m = (l : Patterns) → Kept ns l → Kept ns (m l)
-Says is-line ns m = Kept ns m
-Says is-end ns m = KeptEnd ns m
-Says is-path ns m = Unit {0}
-Says is-alternatives ns m = Unit {0}
-Says is-sequence ns m = Unit {0}
-Says is-steps ns m = Unit {0}
-Says is-step ns m = Unit {0}
-Says is-suffix ns m = Unit {0}
+Says is_question ns m = Kept ns m
+Says is_group ns m = Kept ns m
+Says is_items ns m = (l : Option Patterns) → KeptSome ns l → KeptSome ns (m l)
+Says is_item ns m = (l : Option Patterns) → KeptSome ns l → Kept ns (m l)
+Says is_groups ns m = Kept ns m
+Says is_unions ns m = (l : Patterns) → Kept ns l → Kept ns (m l)
+Says is_line ns m = Kept ns m
+Says is_end ns m = KeptEnd ns m
+Says is_path ns m = Unit {0}
+Says is_alternatives ns m = Unit {0}
+Says is_sequence ns m = Unit {0}
+Says is_steps ns m = Unit {0}
+Says is_step ns m = Unit {0}
+Says is_suffix ns m = Unit {0}
 Says is_base ns m = Unit {0}
-Says is-negation ns m = Unit {0}
-Says is-members ns m = Unit {0}
+Says is_negation ns m = Unit {0}
+Says is_members ns m = Unit {0}
 
 kept_or_empty : (ns : List Name) (l : Option Patterns) → KeptSome ns l → Kept ns (or_empty l)
 kept_or_empty ns None k = refl

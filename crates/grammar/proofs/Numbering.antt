@@ -1,7 +1,7 @@
 -- Names and numbers say the same.
 use Rattle.std.proofs.Common.{◌≡◌, ℕ, zero, suc, ◌<◌, ◌≤◌, Bool, true, false, cond, not, ◌&&◌, ◌||◌, ltb, List, [], ◌∷◌, ◌++◌, length, get_or, Some, None, Option, sym, refl, ap, ◌∙◌, ap₂, arith, ltb-true}
 use Rattle.std.proofs.lemmas.List.{length_push}
-use Rattle.tokens.specs.Words.{Word, iri, literal, name, open-brace, close-brace, open-paren, close-paren, dot, bar, slash, caret, star, bang, optional, union, wrong, end}
+use Rattle.tokens.specs.Words.{Word, iri, literal, name, open_brace, close_brace, open_paren, close_paren, dot, bar, slash, caret, star, bang, optional, union, wrong, end}
 use Rattle.tokens.specs.Lexed.{same_bytes}
 use Rattle.tokens.proofs.Keywords.{same_decides}
 use Rattle.grammar.specs.declared.refusal.Reason.{Reason}
@@ -132,10 +132,10 @@ abbrev pub NameIn : List Name → Word → Type 0
 NameIn ns (iri x) = Unit {0}
 NameIn ns (literal x) = Unit {0}
 NameIn ns (name x) = known x ns ≡ true
-NameIn ns open-brace = Unit {0}
-NameIn ns close-brace = Unit {0}
-NameIn ns open-paren = Unit {0}
-NameIn ns close-paren = Unit {0}
+NameIn ns open_brace = Unit {0}
+NameIn ns close_brace = Unit {0}
+NameIn ns open_paren = Unit {0}
+NameIn ns close_paren = Unit {0}
 NameIn ns dot = Unit {0}
 NameIn ns bar = Unit {0}
 NameIn ns slash = Unit {0}
@@ -189,10 +189,10 @@ notes : (s : Seen) (x : Word) → Notes s x
 notes s (iri x) = no_name s (iri x) refl (λ ns. tt)
 notes s (literal x) = no_name s (literal x) refl (λ ns. tt)
 notes s (name x) = a_name s x
-notes s open-brace = no_name s open-brace refl (λ ns. tt)
-notes s close-brace = no_name s close-brace refl (λ ns. tt)
-notes s open-paren = no_name s open-paren refl (λ ns. tt)
-notes s close-paren = no_name s close-paren refl (λ ns. tt)
+notes s open_brace = no_name s open_brace refl (λ ns. tt)
+notes s close_brace = no_name s close_brace refl (λ ns. tt)
+notes s open_paren = no_name s open_paren refl (λ ns. tt)
+notes s close_paren = no_name s close_paren refl (λ ns. tt)
 notes s dot = no_name s dot refl (λ ns. tt)
 notes s bar = no_name s bar refl (λ ns. tt)
 notes s slash = no_name s slash refl (λ ns. tt)

@@ -2,7 +2,7 @@
 use Rattle.std.proofs.Common.{◌≡◌, ℕ, zero, suc, Bool, true, false, cond, List, [], ◌∷◌, ◌++◌, length, sym, refl, ap, ◌∙◌, subst, append_assoc, append-nil, add_comm, arith, lit<, length-append}
 use Rattle.tokens.specs.declared.token.Token.{Token}
 use Rattle.tokens.specs.Words.{Word, sort, same}
-use Rattle.grammar.specs.Grammar.{is-question, Tree, spell}
+use Rattle.grammar.specs.Grammar.{is_question, Tree, spell}
 use Rattle.grammar.specs.Machine.{Symbol, the, a, Config, at, move, run, Reaches}
 use Rattle.grammar.specs.Reading.{Begins}
 use Rattle.grammar.proofs.Moves.{run_add, run_fixed, move_stop, reach_then, reach_take, reach_stay}
@@ -23,25 +23,25 @@ before (x ∷ v) (y ∷ u) z e =
     (λ i. same i ∷ r i)
 
 -- any trees for what is still to come complete the words passed to a question
-completed : (v : List Word) {z : List Word} {τ : List Symbol} → Reaches (a is-question ∷ []) (v ++ z) τ z → (ts : Trees τ) → (t : Tree is-question) × (v ++ spell_all τ ts [] ≡ spell t [])
+completed : (v : List Word) {z : List Word} {τ : List Symbol} → Reaches (a is_question ∷ []) (v ++ z) τ z → (ts : Trees τ) → (t : Tree is_question) × (v ++ spell_all τ ts [] ≡ spell t [])
 completed v {z} {τ} r ts =
-    let p = subst (Passed (a is-question ∷ []) (v ++ z)) r.does (passed r.moves (a is-question ∷ []) (v ++ z)) in
+    let p = subst (Passed (a is_question ∷ []) (v ++ z)) r.does (passed r.moves (a is_question ∷ []) (v ++ z)) in
     let us = p.2 ts in
     (us.0.0, ap (λ l. l ++ spell_all τ ts []) (before v p.0 z p.1) ∙ us.1 [])
 
 -- the words passed begin a question, whatever is still to come
-pub viable_prefix : (v : List Word) {z : List Word} {τ : List Symbol} → Reaches (a is-question ∷ []) (v ++ z) τ z → Begins v
+pub viable_prefix : (v : List Word) {z : List Word} {τ : List Symbol} → Reaches (a is_question ∷ []) (v ++ z) τ z → Begins v
 viable_prefix v {z} {τ} r = let c = completed v r (some_trees τ) in (c.0, spell_all τ (some_trees τ) [], c.1)
 
 -- and they are all of one if nothing is
-pub whole_prefix : (v : List Word) {z : List Word} → Reaches (a is-question ∷ []) (v ++ z) [] z → (t : Tree is-question) × (v ≡ spell t [])
+pub whole_prefix : (v : List Word) {z : List Word} → Reaches (a is_question ∷ []) (v ++ z) [] z → (t : Tree is_question) × (v ≡ spell t [])
 whole_prefix v r = let c = completed v r tt in (c.0, sym (append-nil v) ∙ c.1)
 
 -- they begin one with a word of the sort that is to come too
-pub going_prefix : (v : List Word) {z : List Word} {x : Word} {t : Token} {τ : List Symbol} → Reaches (a is-question ∷ []) (v ++ x ∷ z) (the t ∷ τ) (x ∷ z) → same t (sort x) ≡ true → Begins (v ++ x ∷ [])
+pub going_prefix : (v : List Word) {z : List Word} {x : Word} {t : Token} {τ : List Symbol} → Reaches (a is_question ∷ []) (v ++ x ∷ z) (the t ∷ τ) (x ∷ z) → same t (sort x) ≡ true → Begins (v ++ x ∷ [])
 going_prefix v {z} {x} {t} {τ} r h =
     let s = reach_then r (reach_take t x h reach_stay) in
-    viable_prefix (v ++ x ∷ []) (subst (λ l. Reaches (a is-question ∷ []) l τ z) (sym (append_assoc v (x ∷ []) z)) s)
+    viable_prefix (v ++ x ∷ []) (subst (λ l. Reaches (a is_question ∷ []) l τ z) (sym (append_assoc v (x ∷ []) z)) s)
 
 -- ---- a word that stops the machine
 
@@ -77,13 +77,13 @@ one_end {σ} {τ} {ρ} {v} {w} {z} r s e f =
     ∙ ap (λ n. run n (at σ v)) (add_comm r.moves s.moves)
     ∙ run_add s.moves r.moves (at σ v) ∙ ap (run r.moves) s.does ∙ run_fixed r.moves (at ρ z) f
 
-pub dead_prefix : (v : List Word) {z : List Word} {x : Word} {t : Token} {τ : List Symbol} → Reaches (a is-question ∷ []) (v ++ x ∷ z) (the t ∷ τ) (x ∷ z) → same t (sort x) ≡ false → Begins (v ++ x ∷ []) → ⊥
+pub dead_prefix : (v : List Word) {z : List Word} {x : Word} {t : Token} {τ : List Symbol} → Reaches (a is_question ∷ []) (v ++ x ∷ z) (the t ∷ τ) (x ∷ z) → same t (sort x) ≡ false → Begins (v ++ x ∷ []) → ⊥
 unfolding move
 dead_prefix v {z} {x} {t} {τ} r h b =
     let w = b.1 in
     let text : v ++ x ∷ w ≡ spell b.0 [] = sym (append_assoc v (x ∷ []) w) ∙ b.2 in
-    let stuck : Reaches (a is-question ∷ []) (v ++ x ∷ w) (the t ∷ τ) (x ∷ w) = record { moves = r.moves; does = agrees r.moves (a is-question ∷ []) (the t ∷ τ) v x z w r.does } in
-    let done = subst (λ l. Reaches (a is-question ∷ []) l [] []) (sym text) (reads b.0 [] [] (lit< tt)) in
+    let stuck : Reaches (a is_question ∷ []) (v ++ x ∷ w) (the t ∷ τ) (x ∷ w) = record { moves = r.moves; does = agrees r.moves (a is_question ∷ []) (the t ∷ τ) v x z w r.does } in
+    let done = subst (λ l. Reaches (a is_question ∷ []) l [] []) (sym text) (reads b.0 [] [] (lit< tt)) in
     let same : at (the t ∷ τ) (x ∷ w) ≡ at [] [] = one_end stuck done (move_stop t τ x w h) refl in
     let no : ◌≡◌ {A = ℕ} 0 1 = cc in
     omega arith

@@ -4,7 +4,7 @@ use Rattle.std.proofs.Common.{◌≡◌, ℕ, zero, suc, Bool, true, false, cond
 use Rattle.tokens.specs.declared.token.Token.{Token}
 use Rattle.tokens.specs.declared.token.Token.TheVariants.{Iri, Literal, Variable, OpenBrace, OpenParen, Bar, Slash, Caret, Star, Bang, Optional, Union}
 use Rattle.tokens.specs.Words.{Word, sort, content, saying, same}
-use Rattle.grammar.specs.Grammar.{Kind, is-question, is-group, is-items, is-item, is-groups, is-unions, is-line, is-end, is-path, is-alternatives, is-sequence, is-steps, is-step, is-suffix, is_base, is-negation, is-members, Tree, whole, braces, no_items, items, a_line, an_option, some_groups, groups, no_unions, unions, ends, end_iri, end_literal, end_name, path, no_alternatives, alternatives, chain, no_steps, steps, forward, backward, once, repeated, predicate, other, brackets, one, several, no_members, members, spell}
+use Rattle.grammar.specs.Grammar.{Kind, is_question, is_group, is_items, is_item, is_groups, is_unions, is_line, is_end, is_path, is_alternatives, is_sequence, is_steps, is_step, is_suffix, is_base, is_negation, is_members, Tree, whole, braces, no_items, items, a_line, an_option, some_groups, groups, no_unions, unions, ends, end_iri, end_literal, end_name, path, no_alternatives, alternatives, chain, no_steps, steps, forward, backward, once, repeated, predicate, other, brackets, one, several, no_members, members, spell}
 use Rattle.grammar.specs.Machine.{Symbol, the, a, parts, Config, at, lead, move, run}
 use Rattle.grammar.proofs.Moves.{same_is, says_is}
 
@@ -25,36 +25,36 @@ spell_all (a k ∷ σ) ts w = spell ts.0 (spell_all σ ts.1 w)
 
 -- ---- some trees for each stack
 
-an_iri : Tree is-end
+an_iri : Tree is_end
 an_iri = end_iri []
 
-a_sequence : Tree is-sequence
+a_sequence : Tree is_sequence
 a_sequence = chain (forward (predicate []) once) no_steps
 
-a_path : Tree is-path
+a_path : Tree is_path
 a_path = path a_sequence no_alternatives
 
-a_group : Tree is-group
+a_group : Tree is_group
 a_group = braces no_items
 
 some_tree : (k : Kind) → Tree k
-some_tree is-question = whole a_group
-some_tree is-group = a_group
-some_tree is-items = no_items
-some_tree is-item = an_option a_group
-some_tree is-groups = groups a_group no_unions
-some_tree is-unions = no_unions
-some_tree is-line = ends an_iri a_path an_iri
-some_tree is-end = an_iri
-some_tree is-path = a_path
-some_tree is-alternatives = no_alternatives
-some_tree is-sequence = a_sequence
-some_tree is-steps = no_steps
-some_tree is-step = forward (predicate []) once
-some_tree is-suffix = once
+some_tree is_question = whole a_group
+some_tree is_group = a_group
+some_tree is_items = no_items
+some_tree is_item = an_option a_group
+some_tree is_groups = groups a_group no_unions
+some_tree is_unions = no_unions
+some_tree is_line = ends an_iri a_path an_iri
+some_tree is_end = an_iri
+some_tree is_path = a_path
+some_tree is_alternatives = no_alternatives
+some_tree is_sequence = a_sequence
+some_tree is_steps = no_steps
+some_tree is_step = forward (predicate []) once
+some_tree is_suffix = once
 some_tree is_base = predicate []
-some_tree is-negation = one []
-some_tree is-members = no_members
+some_tree is_negation = one []
+some_tree is_members = no_members
 
 pub some_trees : (σ : List Symbol) → Trees σ
 some_trees [] = tt
@@ -71,32 +71,32 @@ either true ps qs f g = f
 either false ps qs f g = g
 
 makes : (k : Kind) (s : Token) → Makes k (parts k s)
-makes is-question s = λ ts. (whole ts.0, λ w. refl)
-makes is-group s = λ ts. (braces ts.1.0, λ w. refl)
-makes is-items s =
-    let more : Makes is-items (a is-item ∷ a is-items ∷ []) = λ ts. (items ts.0 ts.1.0, λ w. refl) in
+makes is_question s = λ ts. (whole ts.0, λ w. refl)
+makes is_group s = λ ts. (braces ts.1.0, λ w. refl)
+makes is_items s =
+    let more : Makes is_items (a is_item ∷ a is_items ∷ []) = λ ts. (items ts.0 ts.1.0, λ w. refl) in
     either (same s Iri) _ _ more (either (same s Literal) _ _ more (either (same s Variable) _ _ more
     (either (same s Optional) _ _ more (either (same s OpenBrace) _ _ more (λ ts. (no_items, λ w. refl))))))
-makes is-item s =
+makes is_item s =
     either (same s Optional) _ _ (λ ts. (an_option ts.1.0, λ w. refl))
     (either (same s OpenBrace) _ _ (λ ts. (some_groups ts.0, λ w. refl)) (λ ts. (a_line ts.0, λ w. refl)))
-makes is-groups s = λ ts. (groups ts.0 ts.1.0, λ w. refl)
-makes is-unions s = either (same s Union) _ _ (λ ts. (unions ts.1.0 ts.1.1.0, λ w. refl)) (λ ts. (no_unions, λ w. refl))
-makes is-line s = λ ts. (ends ts.0 ts.1.0 ts.1.1.0, λ w. refl)
-makes is-end s =
+makes is_groups s = λ ts. (groups ts.0 ts.1.0, λ w. refl)
+makes is_unions s = either (same s Union) _ _ (λ ts. (unions ts.1.0 ts.1.1.0, λ w. refl)) (λ ts. (no_unions, λ w. refl))
+makes is_line s = λ ts. (ends ts.0 ts.1.0 ts.1.1.0, λ w. refl)
+makes is_end s =
     either (same s Iri) _ _ (λ ts. (end_iri ts.0, λ w. refl))
     (either (same s Literal) _ _ (λ ts. (end_literal ts.0, λ w. refl)) (λ ts. (end_name ts.0, λ w. refl)))
-makes is-path s = λ ts. (path ts.0 ts.1.0, λ w. refl)
-makes is-alternatives s = either (same s Bar) _ _ (λ ts. (alternatives ts.1.0 ts.1.1.0, λ w. refl)) (λ ts. (no_alternatives, λ w. refl))
-makes is-sequence s = λ ts. (chain ts.0 ts.1.0, λ w. refl)
-makes is-steps s = either (same s Slash) _ _ (λ ts. (steps ts.1.0 ts.1.1.0, λ w. refl)) (λ ts. (no_steps, λ w. refl))
-makes is-step s = either (same s Caret) _ _ (λ ts. (backward ts.1.0 ts.1.1.0, λ w. refl)) (λ ts. (forward ts.0 ts.1.0, λ w. refl))
-makes is-suffix s = either (same s Star) _ _ (λ ts. (repeated, λ w. refl)) (λ ts. (once, λ w. refl))
+makes is_path s = λ ts. (path ts.0 ts.1.0, λ w. refl)
+makes is_alternatives s = either (same s Bar) _ _ (λ ts. (alternatives ts.1.0 ts.1.1.0, λ w. refl)) (λ ts. (no_alternatives, λ w. refl))
+makes is_sequence s = λ ts. (chain ts.0 ts.1.0, λ w. refl)
+makes is_steps s = either (same s Slash) _ _ (λ ts. (steps ts.1.0 ts.1.1.0, λ w. refl)) (λ ts. (no_steps, λ w. refl))
+makes is_step s = either (same s Caret) _ _ (λ ts. (backward ts.1.0 ts.1.1.0, λ w. refl)) (λ ts. (forward ts.0 ts.1.0, λ w. refl))
+makes is_suffix s = either (same s Star) _ _ (λ ts. (repeated, λ w. refl)) (λ ts. (once, λ w. refl))
 makes is_base s =
     either (same s Bang) _ _ (λ ts. (other ts.1.0, λ w. refl))
     (either (same s OpenParen) _ _ (λ ts. (brackets ts.1.0, λ w. refl)) (λ ts. (predicate ts.0, λ w. refl)))
-makes is-negation s = either (same s OpenParen) _ _ (λ ts. (several ts.1.0 ts.1.1.0, λ w. refl)) (λ ts. (one ts.0, λ w. refl))
-makes is-members s = either (same s Bar) _ _ (λ ts. (members ts.1.0 ts.1.1.0, λ w. refl)) (λ ts. (no_members, λ w. refl))
+makes is_negation s = either (same s OpenParen) _ _ (λ ts. (several ts.1.0 ts.1.1.0, λ w. refl)) (λ ts. (one ts.0, λ w. refl))
+makes is_members s = either (same s Bar) _ _ (λ ts. (members ts.1.0 ts.1.1.0, λ w. refl)) (λ ts. (no_members, λ w. refl))
 
 -- ---- what a run says of where it began
 

@@ -1,7 +1,7 @@
 -- Words are spelled by one tree at most.
 use Rattle.std.proofs.Common.{◌≡◌, ℕ, ◌<◌, List, [], ◌∷◌, sym, refl, ap, ◌∙◌, arith, lit<}
-use Rattle.tokens.specs.Words.{Word, end as end-word, close-brace, close-paren, dot, code}
-use Rattle.grammar.specs.Grammar.{Kind, is-groups, is-line, is_base, Tree, whole, braces, no_items, items, a_line, an_option, some_groups, groups, no_unions, unions, ends, end_iri, end_literal, end_name, path, no_alternatives, alternatives, chain, no_steps, steps, forward, backward, once, repeated, predicate, other, brackets, one, several, no_members, members, spell}
+use Rattle.tokens.specs.Words.{Word, end as end_word, close_brace, close_paren, dot, code}
+use Rattle.grammar.specs.Grammar.{Kind, is_groups, is_line, is_base, Tree, whole, braces, no_items, items, a_line, an_option, some_groups, groups, no_unions, unions, ends, end_iri, end_literal, end_name, path, no_alternatives, alternatives, chain, no_steps, steps, forward, backward, once, repeated, predicate, other, brackets, one, several, no_members, members, spell}
 use Rattle.grammar.specs.Machine.{lead}
 use Rattle.grammar.specs.Reading.{OneTree}
 use Rattle.grammar.proofs.Spelled.{bind, Stops, any_stops, end_stops, alternatives_stop, steps_stop, item_binds, items_stop}
@@ -10,12 +10,12 @@ use Rattle.grammar.proofs.Spelled.{bind, Stops, any_stops, end_stops, alternativ
 abbrev first : List Word → ℕ
 first w = code (lead w)
 
-line_begins : (l : Tree is-line) (w : List Word) → first (spell l w) < 3
+line_begins : (l : Tree is_line) (w : List Word) → first (spell l w) < 3
 line_begins (ends (end_iri x) p b) w = lit< tt
 line_begins (ends (end_literal x) p b) w = lit< tt
 line_begins (ends (end_name x) p b) w = lit< tt
 
-groups_begin : (gs : Tree is-groups) (w : List Word) → first (spell gs w) ≡ 3
+groups_begin : (gs : Tree is_groups) (w : List Word) → first (spell gs w) ≡ 3
 groups_begin (groups (braces is) us) w = refl
 
 base_begins : (b : Tree is_base) (w : List Word) → first (spell b w) ≡ 10 → ⊥
@@ -26,11 +26,11 @@ base_begins (brackets p) w e = omega arith
 -- two trees of one kind that spell the same words, each as far as it goes, are one
 pub unique : {k : Kind} (t u : Tree k) (w x : List Word) → spell t w ≡ spell u x → Stops k w → Stops k x → (t ≡ u) × (w ≡ x)
 unique (whole g) (whole g') w x e h k =
-    let r = unique g g' (end-word ∷ w) (end-word ∷ x) e (lit< tt) (lit< tt) in
+    let r = unique g g' (end_word ∷ w) (end_word ∷ x) e (lit< tt) (lit< tt) in
     let f = r.1 in
     (ap whole r.0, cc)
 unique (braces is) (braces is') w x e h k =
-    let r = unique is is' (close-brace ∷ w) (close-brace ∷ x) (cc) (lit< tt) (lit< tt) in
+    let r = unique is is' (close_brace ∷ w) (close_brace ∷ x) (cc) (lit< tt) (lit< tt) in
     let f = r.1 in
     (ap braces r.0, cc)
 unique no_items no_items w x e h k = (refl, e)
@@ -120,7 +120,7 @@ unique (other n) (brackets p) w x e h k = absurd (omega (arith, ap first e))
 unique (brackets p) (predicate y) w x e h k = absurd (omega (arith, ap first e))
 unique (brackets p) (other n) w x e h k = absurd (omega (arith, ap first e))
 unique (brackets p) (brackets p') w x e h k =
-    let r = unique p p' (close-paren ∷ w) (close-paren ∷ x) (cc) (lit< tt) (lit< tt) in
+    let r = unique p p' (close_paren ∷ w) (close_paren ∷ x) (cc) (lit< tt) (lit< tt) in
     let f = r.1 in
     (ap brackets r.0, cc)
 unique (one y) (one z) w x e h k = (cc, cc)

@@ -7,7 +7,7 @@ use Rattle.grammar.specs.declared.refusal.Reason.TheVariants.{NoQuestion, TooDee
 use Rattle.grammar.specs.declared.refusal.Fault.{Fault}
 use Rattle.grammar.specs.declared.refusal.Refusal.TheVariants.{TextTooLong, TooManyNodes, At}
 use Rattle.grammar.specs.Syntax.{nodes}
-use Rattle.grammar.specs.Grammar.{is-question, Tree, means}
+use Rattle.grammar.specs.Grammar.{is_question, Tree, means}
 use Rattle.grammar.specs.Limits.{Seen, nothing, after, gather, limit, Clear}
 use Rattle.grammar.specs.Reading.{words, Lawful, Begins, Refuses, Faulty, OneQuestion, OneRefusal, NotBoth}
 use Rattle.grammar.proofs.Unique.{one_tree}
@@ -80,7 +80,7 @@ no_earlier text f r ts m e b c =
     let s = ap words e ∙ words_split r.before r.here m in
     not_refused f.reason (words r.before) r.here.word (words m) (subst Begins s b) (subst (Clear nothing) s c) r.refuses
 
-lawful_sound : (text : List ℕ) (t : Tree is-question) (f : Fault) → Lawful text t → Faulty text f → ⊥
+lawful_sound : (text : List ℕ) (t : Tree is_question) (f : Fault) → Lawful text t → Faulty text f → ⊥
 lawful_sound text t f l r = no_earlier text f r (tokens text) r.behind r.split (t, [], append-nil _ ∙ l.derives) l.clear
 
 one_fault : (text : List ℕ) (f g : Fault) → Faulty text f → Faulty text g → f ≡ g

@@ -3,67 +3,67 @@
 use Rattle.std.specs.Prelude.{ℕ, List, [], ◌∷◌, Some, None, Option}
 use Rattle.terms.specs.declared.kind.Kind.TheVariants.{Iri, Literal}
 use Rattle.terms.specs.Terms.{Term}
-use Rattle.tokens.specs.Words.{Word, iri, literal, name, open-brace, close-brace, open-paren, close-paren, dot, bar, slash, caret, star as star-word, bang, optional, union as union-word, end as end-word}
+use Rattle.tokens.specs.Words.{Word, iri, literal, name, open_brace, close_brace, open_paren, close_paren, dot, bar, slash, caret, star as star_word, bang, optional, union as union_word, end as end_word}
 use Rattle.grammar.specs.Syntax.{Path, link, negated, inverse, star, sequence, alternative, End, constant, variable, Pattern, empty, line, and, union, opt}
 
 pub data Kind : Type 0 where
-  is-question is-group is-items is-item is-groups is-unions is-line is-end : Kind
-  is-path is-alternatives is-sequence is-steps is-step is-suffix is_base is-negation is-members : Kind
+  is_question is_group is_items is_item is_groups is_unions is_line is_end : Kind
+  is_path is_alternatives is_sequence is_steps is_step is_suffix is_base is_negation is_members : Kind
 
 pub data Tree : Kind → Type 0 where
   -- question: group
-  whole : Tree is-group → Tree is-question
+  whole : Tree is_group → Tree is_question
   -- group: { items }
-  braces : Tree is-items → Tree is-group
+  braces : Tree is_items → Tree is_group
   -- items: nothing, or item items
-  no_items : Tree is-items
-  items : Tree is-item → Tree is-items → Tree is-items
+  no_items : Tree is_items
+  items : Tree is_item → Tree is_items → Tree is_items
   -- item: line, or OPTIONAL group, or groups
-  a_line : Tree is-line → Tree is-item
-  an_option : Tree is-group → Tree is-item
-  some_groups : Tree is-groups → Tree is-item
+  a_line : Tree is_line → Tree is_item
+  an_option : Tree is_group → Tree is_item
+  some_groups : Tree is_groups → Tree is_item
   -- groups: group unions
-  groups : Tree is-group → Tree is-unions → Tree is-groups
+  groups : Tree is_group → Tree is_unions → Tree is_groups
   -- unions: nothing, or UNION group unions
-  no_unions : Tree is-unions
-  unions : Tree is-group → Tree is-unions → Tree is-unions
+  no_unions : Tree is_unions
+  unions : Tree is_group → Tree is_unions → Tree is_unions
   -- line: end path end .
-  ends : Tree is-end → Tree is-path → Tree is-end → Tree is-line
+  ends : Tree is_end → Tree is_path → Tree is_end → Tree is_line
   -- end: <iri>, or "literal", or ?name
-  end_iri : List ℕ → Tree is-end
-  end_literal : List ℕ → Tree is-end
-  end_name : List ℕ → Tree is-end
+  end_iri : List ℕ → Tree is_end
+  end_literal : List ℕ → Tree is_end
+  end_name : List ℕ → Tree is_end
   -- path: sequence alternatives
-  path : Tree is-sequence → Tree is-alternatives → Tree is-path
+  path : Tree is_sequence → Tree is_alternatives → Tree is_path
   -- alternatives: nothing, or | sequence alternatives
-  no_alternatives : Tree is-alternatives
-  alternatives : Tree is-sequence → Tree is-alternatives → Tree is-alternatives
+  no_alternatives : Tree is_alternatives
+  alternatives : Tree is_sequence → Tree is_alternatives → Tree is_alternatives
   -- sequence: step steps
-  chain : Tree is-step → Tree is-steps → Tree is-sequence
+  chain : Tree is_step → Tree is_steps → Tree is_sequence
   -- steps: nothing, or / step steps
-  no_steps : Tree is-steps
-  steps : Tree is-step → Tree is-steps → Tree is-steps
+  no_steps : Tree is_steps
+  steps : Tree is_step → Tree is_steps → Tree is_steps
   -- step: base suffix, or ^ base suffix
-  forward : Tree is_base → Tree is-suffix → Tree is-step
-  backward : Tree is_base → Tree is-suffix → Tree is-step
+  forward : Tree is_base → Tree is_suffix → Tree is_step
+  backward : Tree is_base → Tree is_suffix → Tree is_step
   -- suffix: nothing, or *
-  once : Tree is-suffix
-  repeated : Tree is-suffix
+  once : Tree is_suffix
+  repeated : Tree is_suffix
   -- base: <iri>, or ! negation, or ( path )
   predicate : List ℕ → Tree is_base
-  other : Tree is-negation → Tree is_base
-  brackets : Tree is-path → Tree is_base
+  other : Tree is_negation → Tree is_base
+  brackets : Tree is_path → Tree is_base
   -- negation: <iri>, or ( <iri> members
-  one : List ℕ → Tree is-negation
-  several : List ℕ → Tree is-members → Tree is-negation
+  one : List ℕ → Tree is_negation
+  several : List ℕ → Tree is_members → Tree is_negation
   -- members: ), or | <iri> members
-  no_members : Tree is-members
-  members : List ℕ → Tree is-members → Tree is-members
+  no_members : Tree is_members
+  members : List ℕ → Tree is_members → Tree is_members
 
 -- the words of a tree, and then w
 abbrev pub spell : {k : Kind} → Tree k → List Word → List Word
-spell (whole g) w = spell g (end-word ∷ w)
-spell (braces is) w = open-brace ∷ spell is (close-brace ∷ w)
+spell (whole g) w = spell g (end_word ∷ w)
+spell (braces is) w = open_brace ∷ spell is (close_brace ∷ w)
 spell no_items w = w
 spell (items i is) w = spell i (spell is w)
 spell (a_line l) w = spell l w
@@ -71,7 +71,7 @@ spell (an_option g) w = optional ∷ spell g w
 spell (some_groups gs) w = spell gs w
 spell (groups g us) w = spell g (spell us w)
 spell no_unions w = w
-spell (unions g us) w = union-word ∷ spell g (spell us w)
+spell (unions g us) w = union_word ∷ spell g (spell us w)
 spell (ends a p b) w = spell a (spell p (spell b (dot ∷ w)))
 spell (end_iri x) w = iri x ∷ w
 spell (end_literal x) w = literal x ∷ w
@@ -85,13 +85,13 @@ spell (steps s ss) w = slash ∷ spell s (spell ss w)
 spell (forward b s) w = spell b (spell s w)
 spell (backward b s) w = caret ∷ spell b (spell s w)
 spell once w = w
-spell repeated w = star-word ∷ w
+spell repeated w = star_word ∷ w
 spell (predicate x) w = iri x ∷ w
 spell (other n) w = bang ∷ spell n w
-spell (brackets p) w = open-paren ∷ spell p (close-paren ∷ w)
+spell (brackets p) w = open_paren ∷ spell p (close_paren ∷ w)
 spell (one x) w = iri x ∷ w
-spell (several x ms) w = open-paren ∷ iri x ∷ spell ms w
-spell no_members w = close-paren ∷ w
+spell (several x ms) w = open_paren ∷ iri x ∷ spell ms w
+spell no_members w = close_paren ∷ w
 spell (members x ms) w = bar ∷ iri x ∷ spell ms w
 
 -- ---- what a tree means
@@ -117,23 +117,23 @@ literal_term x = record { kind = Literal; bytes = x }
 -- A chain groups from the left: its rest means a function of what stands to the left of it.
 -- In a group that is nothing at first.
 abbrev pub Meaning : Kind → Type 0
-Meaning is-question = Patterns
-Meaning is-group = Patterns
-Meaning is-items = Option Patterns → Option Patterns
-Meaning is-item = Option Patterns → Patterns
-Meaning is-groups = Patterns
-Meaning is-unions = Patterns → Patterns
-Meaning is-line = Patterns
-Meaning is-end = Ends
-Meaning is-path = Paths
-Meaning is-alternatives = Paths → Paths
-Meaning is-sequence = Paths
-Meaning is-steps = Paths → Paths
-Meaning is-step = Paths
-Meaning is-suffix = Paths → Paths
+Meaning is_question = Patterns
+Meaning is_group = Patterns
+Meaning is_items = Option Patterns → Option Patterns
+Meaning is_item = Option Patterns → Patterns
+Meaning is_groups = Patterns
+Meaning is_unions = Patterns → Patterns
+Meaning is_line = Patterns
+Meaning is_end = Ends
+Meaning is_path = Paths
+Meaning is_alternatives = Paths → Paths
+Meaning is_sequence = Paths
+Meaning is_steps = Paths → Paths
+Meaning is_step = Paths
+Meaning is_suffix = Paths → Paths
 Meaning is_base = Paths
-Meaning is-negation = Paths
-Meaning is-members = List Term
+Meaning is_negation = Paths
+Meaning is_members = List Term
 
 -- a line or a union that opens a group stands alone; any other is joined by AND to all before it
 abbrev pub joined : Option Patterns → Patterns → Patterns

@@ -2,7 +2,7 @@
 use Rattle.std.specs.Prelude.{◌≡◌, ℕ, ◌+◌, ◌-◌, Bool, false, cond, ◌||◌, List, [], ◌∷◌, ◌++◌, length, Some, None, Option, nat_le, nat_lt}
 use Rattle.terms.specs.Terms.{Term}
 use Rattle.tokens.specs.Lexed.{same_bytes}
-use Rattle.tokens.specs.Words.{Word, iri, literal, name, open-brace, close-brace, open-paren, close-paren, dot, bar, slash, caret, star, bang, optional, union, wrong, end}
+use Rattle.tokens.specs.Words.{Word, iri, literal, name, open_brace, close_brace, open_paren, close_paren, dot, bar, slash, caret, star, bang, optional, union, wrong, end}
 use Rattle.grammar.specs.declared.refusal.Reason.{Reason}
 use Rattle.grammar.specs.declared.refusal.Reason.TheVariants.{TooDeep, TooManyVariables, TooLong}
 use Rattle.grammar.specs.Grammar.{Name, iri_term, literal_term}
@@ -42,10 +42,10 @@ abbrev pub after : Seen → Word → Seen
 after s (iri x) = with_term s (iri_term x)
 after s (literal x) = with_term s (literal_term x)
 after s (name x) = with_name s x
-after s open-brace = deeper s
-after s close-brace = shallower s
-after s open-paren = deeper s
-after s close-paren = shallower s
+after s open_brace = deeper s
+after s close_brace = shallower s
+after s open_paren = deeper s
+after s close_paren = shallower s
 after s dot = s
 after s bar = s
 after s slash = s
@@ -73,10 +73,10 @@ abbrev pub limit : Seen → Word → Option Reason
 limit s (iri x) = at_most 128 (length x)
 limit s (literal x) = at_most 128 (length x)
 limit s (name x) = cond (known x s.names) None (cond (nat_lt (length s.names) 8) (at_most 16 (length x)) (Some TooManyVariables))
-limit s open-brace = opening s
-limit s close-brace = None
-limit s open-paren = opening s
-limit s close-paren = None
+limit s open_brace = opening s
+limit s close_brace = None
+limit s open_paren = opening s
+limit s close_paren = None
 limit s dot = None
 limit s bar = None
 limit s slash = None

@@ -3,7 +3,7 @@ use Rattle.std.specs.Prelude.{◌≡◌, ℕ, zero, suc, cond, List, [], ◌∷�
 use Rattle.tokens.specs.declared.token.Token.{Token}
 use Rattle.tokens.specs.declared.token.Token.TheVariants.{Iri, Literal, Variable, OpenBrace, CloseBrace, OpenParen, CloseParen, Dot, Bar, Slash, Caret, Star, Bang, Optional, Union, End}
 use Rattle.tokens.specs.Words.{Word, sort, same}
-use Rattle.grammar.specs.Grammar.{Kind, is-question, is-group, is-items, is-item, is-groups, is-unions, is-line, is-end, is-path, is-alternatives, is-sequence, is-steps, is-step, is-suffix, is_base, is-negation, is-members}
+use Rattle.grammar.specs.Grammar.{Kind, is_question, is_group, is_items, is_item, is_groups, is_unions, is_line, is_end, is_path, is_alternatives, is_sequence, is_steps, is_step, is_suffix, is_base, is_negation, is_members}
 
 -- what is still to come: a word of a sort, or a tree of a kind
 pub data Symbol : Type 0 where
@@ -12,25 +12,25 @@ pub data Symbol : Type 0 where
 
 -- the parts of a kind, by the sort of the next word
 abbrev pub parts : Kind → Token → List Symbol
-parts is-question s = a is-group ∷ the End ∷ []
-parts is-group s = the OpenBrace ∷ a is-items ∷ the CloseBrace ∷ []
-parts is-items s =
-    cond (same s Iri) (a is-item ∷ a is-items ∷ []) (cond (same s Literal) (a is-item ∷ a is-items ∷ []) (cond (same s Variable) (a is-item ∷ a is-items ∷ [])
-    (cond (same s Optional) (a is-item ∷ a is-items ∷ []) (cond (same s OpenBrace) (a is-item ∷ a is-items ∷ []) []))))
-parts is-item s = cond (same s Optional) (the Optional ∷ a is-group ∷ []) (cond (same s OpenBrace) (a is-groups ∷ []) (a is-line ∷ []))
-parts is-groups s = a is-group ∷ a is-unions ∷ []
-parts is-unions s = cond (same s Union) (the Union ∷ a is-group ∷ a is-unions ∷ []) []
-parts is-line s = a is-end ∷ a is-path ∷ a is-end ∷ the Dot ∷ []
-parts is-end s = cond (same s Iri) (the Iri ∷ []) (cond (same s Literal) (the Literal ∷ []) (the Variable ∷ []))
-parts is-path s = a is-sequence ∷ a is-alternatives ∷ []
-parts is-alternatives s = cond (same s Bar) (the Bar ∷ a is-sequence ∷ a is-alternatives ∷ []) []
-parts is-sequence s = a is-step ∷ a is-steps ∷ []
-parts is-steps s = cond (same s Slash) (the Slash ∷ a is-step ∷ a is-steps ∷ []) []
-parts is-step s = cond (same s Caret) (the Caret ∷ a is_base ∷ a is-suffix ∷ []) (a is_base ∷ a is-suffix ∷ [])
-parts is-suffix s = cond (same s Star) (the Star ∷ []) []
-parts is_base s = cond (same s Bang) (the Bang ∷ a is-negation ∷ []) (cond (same s OpenParen) (the OpenParen ∷ a is-path ∷ the CloseParen ∷ []) (the Iri ∷ []))
-parts is-negation s = cond (same s OpenParen) (the OpenParen ∷ the Iri ∷ a is-members ∷ []) (the Iri ∷ [])
-parts is-members s = cond (same s Bar) (the Bar ∷ the Iri ∷ a is-members ∷ []) (the CloseParen ∷ [])
+parts is_question s = a is_group ∷ the End ∷ []
+parts is_group s = the OpenBrace ∷ a is_items ∷ the CloseBrace ∷ []
+parts is_items s =
+    cond (same s Iri) (a is_item ∷ a is_items ∷ []) (cond (same s Literal) (a is_item ∷ a is_items ∷ []) (cond (same s Variable) (a is_item ∷ a is_items ∷ [])
+    (cond (same s Optional) (a is_item ∷ a is_items ∷ []) (cond (same s OpenBrace) (a is_item ∷ a is_items ∷ []) []))))
+parts is_item s = cond (same s Optional) (the Optional ∷ a is_group ∷ []) (cond (same s OpenBrace) (a is_groups ∷ []) (a is_line ∷ []))
+parts is_groups s = a is_group ∷ a is_unions ∷ []
+parts is_unions s = cond (same s Union) (the Union ∷ a is_group ∷ a is_unions ∷ []) []
+parts is_line s = a is_end ∷ a is_path ∷ a is_end ∷ the Dot ∷ []
+parts is_end s = cond (same s Iri) (the Iri ∷ []) (cond (same s Literal) (the Literal ∷ []) (the Variable ∷ []))
+parts is_path s = a is_sequence ∷ a is_alternatives ∷ []
+parts is_alternatives s = cond (same s Bar) (the Bar ∷ a is_sequence ∷ a is_alternatives ∷ []) []
+parts is_sequence s = a is_step ∷ a is_steps ∷ []
+parts is_steps s = cond (same s Slash) (the Slash ∷ a is_step ∷ a is_steps ∷ []) []
+parts is_step s = cond (same s Caret) (the Caret ∷ a is_base ∷ a is_suffix ∷ []) (a is_base ∷ a is_suffix ∷ [])
+parts is_suffix s = cond (same s Star) (the Star ∷ []) []
+parts is_base s = cond (same s Bang) (the Bang ∷ a is_negation ∷ []) (cond (same s OpenParen) (the OpenParen ∷ a is_path ∷ the CloseParen ∷ []) (the Iri ∷ []))
+parts is_negation s = cond (same s OpenParen) (the OpenParen ∷ the Iri ∷ a is_members ∷ []) (the Iri ∷ [])
+parts is_members s = cond (same s Bar) (the Bar ∷ the Iri ∷ a is_members ∷ []) (the CloseParen ∷ [])
 
 pub data Config : Type 0 where
   at : List Symbol → List Word → Config

@@ -9,7 +9,7 @@ use Rattle.grammar.specs.declared.refusal.Fault.{Fault}
 use Rattle.grammar.specs.declared.refusal.Refusal.{Refusal}
 use Rattle.grammar.specs.declared.refusal.Refusal.TheVariants.{TextTooLong, TooManyNodes, At}
 use Rattle.grammar.specs.Syntax.{nodes}
-use Rattle.grammar.specs.Grammar.{is-question, Tree, spell, means, Name, Patterns}
+use Rattle.grammar.specs.Grammar.{is_question, Tree, spell, means, Name, Patterns}
 use Rattle.grammar.specs.Limits.{nothing, gather, limit, Clear}
 
 -- what a text asks: its pattern, its variables by first place, its terms in text order
@@ -21,17 +21,17 @@ pub record Asked : Type 0 where
 abbrev pub words : List Spot → List Word
 words v = map (λ s. s.word) v
 
-abbrev pub Derives : List ℕ → Tree is-question → Type 0
+abbrev pub Derives : List ℕ → Tree is_question → Type 0
 Derives text t = words (tokens text) ≡ spell t []
 
 -- the words are those of a tree, and no word is over a limit
-pub record Lawful (text : List ℕ) (t : Tree is-question) : Type 0 where
+pub record Lawful (text : List ℕ) (t : Tree is_question) : Type 0 where
   pub short : length text ≤ 2048
   pub derives : Derives text t
   pub clear : Clear nothing (words (tokens text))
 
 pub record Question (text : List ℕ) (q : Asked) : Type 0 where
-  pub tree : Tree is-question
+  pub tree : Tree is_question
   pub lawful : Lawful text tree
   pub small : nodes (means tree) ≤ 64
   pub pattern : q.pattern ≡ means tree
@@ -40,7 +40,7 @@ pub record Question (text : List ℕ) (q : Asked) : Type 0 where
 
 -- these words begin some question, limits aside
 abbrev pub Begins : List Word → Type 0
-Begins v = (t : Tree is-question) × (w : List Word) × (v ++ w ≡ spell t [])
+Begins v = (t : Tree is_question) × (w : List Word) × (v ++ w ≡ spell t [])
 
 -- Why a word is refused after others that begin a question: with it they begin none, or they do and it is over a limit.
 abbrev pub Refuses : Reason → List Word → Word → Type 0
@@ -62,7 +62,7 @@ pub record Faulty (text : List ℕ) (f : Fault) : Type 0 where
 
 abbrev pub Refused : List ℕ → Refusal → Type 0
 Refused text TextTooLong = 2048 < length text
-Refused text TooManyNodes = (t : Tree is-question) × Lawful text t × (64 < nodes (means t))
+Refused text TooManyNodes = (t : Tree is_question) × Lawful text t × (64 < nodes (means t))
 Refused text (At f) = (length text ≤ 2048) × Faulty text f
 
 -- the number that a refusal is told by, and the offset if it tells one
@@ -86,7 +86,7 @@ offset_of (At f) = Some f.at
 
 -- a text has at most one tree
 abbrev pub OneTree : Type 0
-OneTree = (text : List ℕ) (t u : Tree is-question) → Derives text t → Derives text u → t ≡ u
+OneTree = (text : List ℕ) (t u : Tree is_question) → Derives text t → Derives text u → t ≡ u
 
 -- a text asks at most one question
 abbrev pub OneQuestion : Type 0

@@ -6,7 +6,7 @@ ghost use Rattle.question.specs.Parts.{path_is};
 
 use question::{PathNode, Question};
 
-#[cycle(walkable_walkable_again_walkable_in_turn)]
+#[cycle(path_verdict)]
 pub(crate) fn walkable(q: &Question, index: usize, left: bool, right: bool) -> bool
     ensures { result ≡ can_walk (path_is q.now index) left right }
 {
@@ -26,7 +26,7 @@ pub(crate) fn walkable(q: &Question, index: usize, left: bool, right: bool) -> b
 }
 
 // From the left end, if it is fixed and every step can be walked so; else from the right end.
-#[cycle(walkable_walkable_again_walkable_in_turn)]
+#[cycle(path_verdict)]
 fn walkable_again(q: &Question, part: usize, left: bool, right: bool) -> bool
     ensures { result ≡ can_walk (star (path_is q.now part)) left right }
 {
@@ -37,7 +37,7 @@ fn walkable_again(q: &Question, part: usize, left: bool, right: bool) -> bool
 }
 
 // From the left where the first part can be walked so: then the second part decides.
-#[cycle(walkable_walkable_again_walkable_in_turn)]
+#[cycle(path_verdict)]
 fn walkable_in_turn(q: &Question, first: usize, second: usize, left: bool, right: bool) -> bool
     ensures { result ≡ can_walk (sequence (path_is q.now first) (path_is q.now second)) left right }
 {

@@ -10,7 +10,7 @@ use crate::masks::{is_fixed, mask_of};
 use crate::paths::walkable;
 use question::{End, PatternNode, Question};
 
-#[cycle(judge_judge_and_judge_opt_judge_union)]
+#[cycle(pattern_verdict)]
 pub(crate) fn judge(q: &Question, index: usize, fixed: u8) -> Option<u8>
     requires distinct { distinct (asked q.now).names ≡ true }
     ensures { Judges (asks_at q.now index) fixed result }
@@ -45,7 +45,7 @@ fn judge_line(q: &Question, subject: End, path: usize, object: End, fixed: u8) -
 }
 
 // The left side first where it is bounded so: then the right side decides. Else the right side must help the left.
-#[cycle(judge_judge_and_judge_opt_judge_union)]
+#[cycle(pattern_verdict)]
 fn judge_and(q: &Question, left: usize, right: usize, fixed: u8) -> Option<u8>
     requires distinct { distinct (asked q.now).names ≡ true }
     ensures { Judges (and (asks_at q.now left) (asks_at q.now right)) fixed result }
@@ -66,7 +66,7 @@ fn judge_and(q: &Question, left: usize, right: usize, fixed: u8) -> Option<u8>
     }
 }
 
-#[cycle(judge_judge_and_judge_opt_judge_union)]
+#[cycle(pattern_verdict)]
 fn judge_union(q: &Question, left: usize, right: usize, fixed: u8) -> Option<u8>
     requires distinct { distinct (asked q.now).names ≡ true }
     ensures { Judges (union (asks_at q.now left) (asks_at q.now right)) fixed result }
@@ -81,7 +81,7 @@ fn judge_union(q: &Question, left: usize, right: usize, fixed: u8) -> Option<u8>
 }
 
 // The optional side gets what the left side gives, and nothing else.
-#[cycle(judge_judge_and_judge_opt_judge_union)]
+#[cycle(pattern_verdict)]
 fn judge_opt(q: &Question, left: usize, right: usize, fixed: u8) -> Option<u8>
     requires distinct { distinct (asked q.now).names ≡ true }
     ensures { Judges (opt (asks_at q.now left) (asks_at q.now right)) fixed result }

@@ -11,7 +11,7 @@ use question::{PathNode, Question};
 use std::alloc::AllocError;
 
 // The path at an index, if it stands before the limit.
-#[cycle(put_one_put_path_put_two)]
+#[cycle(path_text)]
 pub fn put_path(
     q: &Question,
     limit: usize,
@@ -36,7 +36,7 @@ pub fn put_path(
     }
 }
 
-#[cycle(put_one_put_path_put_two)]
+#[cycle(path_text)]
 fn put_one(
     q: &Question,
     head: &[u8],
@@ -51,7 +51,7 @@ fn put_one(
     put(b")", out)
 }
 
-#[cycle(put_one_put_path_put_two)]
+#[cycle(path_text)]
 fn put_two(
     q: &Question,
     head: &[u8],

@@ -11,7 +11,7 @@ use question::{End, PatternNode, Question};
 use std::alloc::AllocError;
 
 // The pattern at an index, if it stands before the limit.
-#[cycle(put_both_put_pattern)]
+#[cycle(pattern_text)]
 pub fn put_pattern(
     q: &Question,
     limit: usize,
@@ -39,7 +39,7 @@ pub fn put_pattern(
     }
 }
 
-#[cycle(put_both_put_pattern)]
+#[cycle(pattern_text)]
 fn put_both(
     q: &Question,
     head: &[u8],

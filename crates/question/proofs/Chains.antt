@@ -5,7 +5,7 @@ use Rattle.tokens.specs.declared.token.Token.TheVariants.{Bar, Slash, Union}
 use Rattle.tokens.specs.Words.{Word, content, saying}
 use Rattle.grammar.specs.declared.refusal.Fault.{Fault}
 use Rattle.grammar.specs.Syntax.{path_nodes, nodes, sequence, alternative, union}
-use Rattle.grammar.specs.Grammar.{Kind, is-path, is-alternatives, is-sequence, is-steps, is-step, is-groups, is-group, is-unions, Tree, path, no_alternatives, alternatives, chain, no_steps, steps, groups, no_unions, unions, spell, means, Paths, Patterns}
+use Rattle.grammar.specs.Grammar.{Kind, is_path, is_alternatives, is_sequence, is_steps, is_step, is_groups, is_group, is_unions, Tree, path, no_alternatives, alternatives, chain, no_steps, steps, groups, no_unions, unions, spell, means, Paths, Patterns}
 use Rattle.grammar.specs.Reading.{words}
 use Rattle.grammar.specs.Machine.{Symbol, the, a, parts, lead}
 use Rattle.question.specs.Views.{View, Went, Counted, Failed}
@@ -108,7 +108,7 @@ module _ {X : Type 0} {k part tail : Kind} {sign : Token} (c : Chained X k part 
 
 -- ---- the three chains
 
-abbrev pub alternating : Chained Paths is-path is-sequence is-alternatives Bar
+abbrev pub alternating : Chained Paths is_path is_sequence is_alternatives Bar
 alternating = record {
   whole = λ t. means t;
   of = λ t. means t;
@@ -119,8 +119,8 @@ alternating = record {
   op = alternative;
   size = path_nodes;
   opens = λ s. refl;
-  goes = λ s e. this_way (the Bar ∷ a is-sequence ∷ a is-alternatives ∷ []) [] e;
-  ends = λ s n. other_way (the Bar ∷ a is-sequence ∷ a is-alternatives ∷ []) [] n;
+  goes = λ s e. this_way (the Bar ∷ a is_sequence ∷ a is_alternatives ∷ []) [] e;
+  ends = λ s n. other_way (the Bar ∷ a is_sequence ∷ a is_alternatives ∷ []) [] n;
   bare = λ x. refl;
   join_spells = λ s t w. refl;
   more_spells = λ s t w. refl;
@@ -131,7 +131,7 @@ alternating = record {
   grows = λ x y. refl;
 }
 
-abbrev pub stepping : Chained Paths is-sequence is-step is-steps Slash
+abbrev pub stepping : Chained Paths is_sequence is_step is_steps Slash
 stepping = record {
   whole = λ t. means t;
   of = λ t. means t;
@@ -142,8 +142,8 @@ stepping = record {
   op = sequence;
   size = path_nodes;
   opens = λ s. refl;
-  goes = λ s e. this_way (the Slash ∷ a is-step ∷ a is-steps ∷ []) [] e;
-  ends = λ s n. other_way (the Slash ∷ a is-step ∷ a is-steps ∷ []) [] n;
+  goes = λ s e. this_way (the Slash ∷ a is_step ∷ a is_steps ∷ []) [] e;
+  ends = λ s n. other_way (the Slash ∷ a is_step ∷ a is_steps ∷ []) [] n;
   bare = λ x. refl;
   join_spells = λ s t w. refl;
   more_spells = λ s t w. refl;
@@ -154,7 +154,7 @@ stepping = record {
   grows = λ x y. refl;
 }
 
-abbrev pub uniting : Chained Patterns is-groups is-group is-unions Union
+abbrev pub uniting : Chained Patterns is_groups is_group is_unions Union
 uniting = record {
   whole = λ t. means t;
   of = λ t. means t;
@@ -165,8 +165,8 @@ uniting = record {
   op = union;
   size = nodes;
   opens = λ s. refl;
-  goes = λ s e. this_way (the Union ∷ a is-group ∷ a is-unions ∷ []) [] e;
-  ends = λ s n. other_way (the Union ∷ a is-group ∷ a is-unions ∷ []) [] n;
+  goes = λ s e. this_way (the Union ∷ a is_group ∷ a is_unions ∷ []) [] e;
+  ends = λ s n. other_way (the Union ∷ a is_group ∷ a is_unions ∷ []) [] n;
   bare = λ x. refl;
   join_spells = λ s t w. refl;
   more_spells = λ s t w. refl;

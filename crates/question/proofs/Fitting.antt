@@ -6,7 +6,7 @@ use Rattle.std.proofs.str.Laws.{order}
 use Rattle.grammar.specs.Syntax.{negated}
 use Rattle.tokens.specs.declared.token.Token.{Token}
 use Rattle.tokens.specs.declared.token.Token.TheVariants.{Iri, Dot}
-use Rattle.grammar.specs.Grammar.{Kind, is-path, means, iri_term, Paths, Patterns}
+use Rattle.grammar.specs.Grammar.{Kind, is_path, means, iri_term, Paths, Patterns}
 use Rattle.grammar.specs.Machine.{a}
 use Rattle.question.specs.declared.node.End.{End}
 use Rattle.question.specs.declared.reader.Reader.{Reader}
@@ -76,7 +76,7 @@ module _ (text : List ℕ) {r : Reader} where
   pub opt_fits : {i j : ℕ} {y : Patterns} → PatternThere r i → (r.full ≡ false → HeldPattern (view text r) j y) → PatternFits r (pattern.Opt i j)
   opt_fits h k = record { from = λ f. omega (arith, h f, pattern_there text r (k f)); paths = λ f. omega arith; terms = λ f. omega arith; names = λ f. omega arith }
 
-  pub line_fits : {p q s u : View} {x y : End} {l n : ℕ} → ReadEnd p q x → PathDone is-path (λ t. means t) q s l → ReadEnd s u y → Took Dot u (view text r) n → PatternFits r (pattern.Line x l y)
+  pub line_fits : {p q s u : View} {x y : End} {l n : ℕ} → ReadEnd p q x → PathDone is_path (λ t. means t) q s l → ReadEnd s u y → Took Dot u (view text r) n → PatternFits r (pattern.Line x l y)
   line_fits x b y d = record {
     from = λ f. omega arith;
     paths = λ f.

@@ -2,7 +2,7 @@
 use Rattle.std.proofs.Common.{◌≡◌, ℕ, ◌+◌, ◌≤◌, Bool, true, false, cond, List, [], ◌∷◌, ◌++◌, length, vec_items, vec_len, sym, refl, ap, ◌∙◌, subst, arith, length-append}
 use lib.ListN.{length-map}
 use Rattle.std.proofs.lemmas.List.{get_or_append_left, get_or_push, length_push}
-use Rattle.tokens.specs.Words.{Word, iri, literal, name, open-brace, close-brace, open-paren, close-paren, dot, bar, slash, caret, star, bang, optional, union, wrong, end}
+use Rattle.tokens.specs.Words.{Word, iri, literal, name, open_brace, close_brace, open_paren, close_paren, dot, bar, slash, caret, star, bang, optional, union, wrong, end}
 use Rattle.grammar.specs.Grammar.{Name, Ends, Paths, Patterns, iri_term, literal_term}
 use Rattle.grammar.specs.Limits.{Seen, after, gather, known}
 use Rattle.grammar.specs.Reading.{words}
@@ -56,10 +56,10 @@ after_terms : (s : Seen) (x : Word) → Grows s.terms (after s x).terms
 after_terms s (iri x) = (iri_term x ∷ [], refl)
 after_terms s (literal x) = (literal_term x ∷ [], refl)
 after_terms s (name x) = grows_stay s.terms
-after_terms s open-brace = grows_stay s.terms
-after_terms s close-brace = grows_stay s.terms
-after_terms s open-paren = grows_stay s.terms
-after_terms s close-paren = grows_stay s.terms
+after_terms s open_brace = grows_stay s.terms
+after_terms s close_brace = grows_stay s.terms
+after_terms s open_paren = grows_stay s.terms
+after_terms s close_paren = grows_stay s.terms
 after_terms s dot = grows_stay s.terms
 after_terms s bar = grows_stay s.terms
 after_terms s slash = grows_stay s.terms
@@ -79,10 +79,10 @@ after_names : (s : Seen) (x : Word) → Grows s.names (after s x).names
 after_names s (iri x) = grows_stay s.names
 after_names s (literal x) = grows_stay s.names
 after_names s (name x) = noted_grows x s.names (known x s.names)
-after_names s open-brace = grows_stay s.names
-after_names s close-brace = grows_stay s.names
-after_names s open-paren = grows_stay s.names
-after_names s close-paren = grows_stay s.names
+after_names s open_brace = grows_stay s.names
+after_names s close_brace = grows_stay s.names
+after_names s open_paren = grows_stay s.names
+after_names s close_paren = grows_stay s.names
 after_names s dot = grows_stay s.names
 after_names s bar = grows_stay s.names
 after_names s slash = grows_stay s.names

@@ -6,7 +6,7 @@ use Rattle.tokens.specs.declared.token.Token.TheVariants.{Iri, OpenParen, CloseP
 use Rattle.tokens.specs.Words.{Word, content, saying, same, iri}
 use Rattle.grammar.specs.declared.refusal.Fault.{Fault}
 use Rattle.grammar.specs.Syntax.{path_nodes, negated}
-use Rattle.grammar.specs.Grammar.{Kind, is-path, is-step, is-suffix, is_base, is-negation, is-members, Tree, forward, backward, once, repeated, predicate, other, brackets, one, several, no_members, members, spell, means, Paths, iri_term}
+use Rattle.grammar.specs.Grammar.{Kind, is_path, is_step, is_suffix, is_base, is_negation, is_members, Tree, forward, backward, once, repeated, predicate, other, brackets, one, several, no_members, members, spell, means, Paths, iri_term}
 use Rattle.grammar.specs.Limits.{after}
 use Rattle.grammar.specs.Reading.{words}
 use Rattle.grammar.specs.Machine.{Symbol, the, a, lead}
@@ -67,7 +67,7 @@ pub star_read : {p q r : View} {l n i : ℕ} → lead (words p.spots) ≡ Star �
 star_read {p} {q} {r} {l} e h x = record {
   tree = repeated;
   reads = took_reads h ∙ ap (λ v. saying Star [] ∷ words v) (sym x.placed.spots);
-  went = went_then (went_on (went_open is-suffix (the Star ∷ []) p (this_way (the Star ∷ []) [] e)) h.went) (went_path x []);
+  went = went_then (went_on (went_open is_suffix (the Star ∷ []) p (this_way (the Star ∷ []) [] e)) h.went) (went_path x []);
   counted = λ m. counted_after h.idle (counted_as (omega arith) refl (counted_beside (path_nodes m) x.placed.counted));
   held = λ f m s. star_placed x (path_stays (took_onward h (x.placed.free f)) s) f;
 }
@@ -76,15 +76,15 @@ pub once_read : {p : View} (l : ℕ) → (lead (words p.spots) ≡ Star → ⊥)
 once_read {p} l n = record {
   tree = once;
   reads = refl;
-  went = went_open is-suffix [] p (other_way (the Star ∷ []) [] n);
+  went = went_open is_suffix [] p (other_way (the Star ∷ []) [] n);
   counted = λ m. counted_idle (idle_stay p) (path_nodes m);
   held = λ f m s. s;
 }
 
-pub star_fails : {p : View} {f : Fault} → lead (words p.spots) ≡ Star → Failed (the Star) p f → Failed (a is-suffix) p f
-star_fails {p} e h = failed_in (went_open is-suffix (the Star ∷ []) p (this_way (the Star ∷ []) [] e)) h
+pub star_fails : {p : View} {f : Fault} → lead (words p.spots) ≡ Star → Failed (the Star) p f → Failed (a is_suffix) p f
+star_fails {p} e h = failed_in (went_open is_suffix (the Star ∷ []) p (this_way (the Star ∷ []) [] e)) h
 
-suffix_larger : (t : Tree is-suffix) (m : Paths) → path_nodes m ≤ path_nodes (means t m)
+suffix_larger : (t : Tree is_suffix) (m : Paths) → path_nodes m ≤ path_nodes (means t m)
 suffix_larger once m = omega arith
 suffix_larger repeated m = omega arith
 
@@ -94,17 +94,17 @@ abbrev pub PathDone : (k : Kind) → (Tree k → Paths) → View → View → �
 PathDone k of p q i = Read k of path_nodes HeldPath p q i
 
 module _ {p : View} (n : lead (words p.spots) ≡ Caret → ⊥) where
-  opened_forward : Went (a is-step ∷ []) (a is_base ∷ a is-suffix ∷ []) p p
-  opened_forward = went_open is-step (a is_base ∷ a is-suffix ∷ []) p (other_way (the Caret ∷ a is_base ∷ a is-suffix ∷ []) (a is_base ∷ a is-suffix ∷ []) n)
+  opened_forward : Went (a is_step ∷ []) (a is_base ∷ a is_suffix ∷ []) p p
+  opened_forward = went_open is_step (a is_base ∷ a is_suffix ∷ []) p (other_way (the Caret ∷ a is_base ∷ a is_suffix ∷ []) (a is_base ∷ a is_suffix ∷ []) n)
 
-  pub forward_first : {f : Fault} → Failed (a is_base) p f → Failed (a is-step) p f
+  pub forward_first : {f : Fault} → Failed (a is_base) p f → Failed (a is_step) p f
   forward_first h = failed_in opened_forward h
 
   module _ {q : View} {l : ℕ} (b : PathDone is_base (λ t. means t) p q l) where
-    pub forward_then : {f : Fault} → Failed (a is-suffix) q f → Failed (a is-step) p f
+    pub forward_then : {f : Fault} → Failed (a is_suffix) q f → Failed (a is_step) p f
     forward_then h = failed_in (went_on opened_forward b.went) h
 
-    pub forward_read : {r : View} {i : ℕ} → ReadSuffix l q r i → PathDone is-step (λ t. means t) p r i
+    pub forward_read : {r : View} {i : ℕ} → ReadSuffix l q r i → PathDone is_step (λ t. means t) p r i
     forward_read {r} s = record {
       tree = forward b.tree s.tree;
       reads = b.reads ∙ ap (spell b.tree) s.reads;
@@ -113,26 +113,26 @@ module _ {p : View} (n : lead (words p.spots) ≡ Caret → ⊥) where
       held = λ f. s.held f (means b.tree) (b.held (s.went.kept.free f));
     }
 
-    pub forward_out : {r : View} (o : Result ℕ Fault) → Outcome (a is-suffix) q (λ i. ReadSuffix l q r i) o → PathRead is-step (λ t. means t) p r o
+    pub forward_out : {r : View} (o : Result ℕ Fault) → Outcome (a is_suffix) q (λ i. ReadSuffix l q r i) o → PathRead is_step (λ t. means t) p r o
     forward_out (Ok i) x = record { is = forward_read x.is }
     forward_out (Err f) x = record { is = forward_then x.is }
 
 module _ {p : View} (e : lead (words p.spots) ≡ Caret) where
-  opened_backward : Went (a is-step ∷ []) (the Caret ∷ a is_base ∷ a is-suffix ∷ []) p p
-  opened_backward = went_open is-step (the Caret ∷ a is_base ∷ a is-suffix ∷ []) p (this_way (the Caret ∷ a is_base ∷ a is-suffix ∷ []) (a is_base ∷ a is-suffix ∷ []) e)
+  opened_backward : Went (a is_step ∷ []) (the Caret ∷ a is_base ∷ a is_suffix ∷ []) p p
+  opened_backward = went_open is_step (the Caret ∷ a is_base ∷ a is_suffix ∷ []) p (this_way (the Caret ∷ a is_base ∷ a is_suffix ∷ []) (a is_base ∷ a is_suffix ∷ []) e)
 
-  pub backward_sign : {f : Fault} → Failed (the Caret) p f → Failed (a is-step) p f
+  pub backward_sign : {f : Fault} → Failed (the Caret) p f → Failed (a is_step) p f
   backward_sign h = failed_in opened_backward h
 
   module _ {q : View} {n : ℕ} (c : Took Caret p q n) where
-    pub backward_first : {f : Fault} → Failed (a is_base) q f → Failed (a is-step) p f
+    pub backward_first : {f : Fault} → Failed (a is_base) q f → Failed (a is_step) p f
     backward_first h = failed_in (went_on opened_backward c.went) h
 
     module _ {r : View} {l : ℕ} (b : PathDone is_base (λ t. means t) q r l) where
-      pub backward_then : {f : Fault} → Failed (a is-suffix) r f → Failed (a is-step) p f
+      pub backward_then : {f : Fault} → Failed (a is_suffix) r f → Failed (a is_step) p f
       backward_then h = failed_in (went_on (went_on opened_backward c.went) b.went) h
 
-      pub backward_read : {s t : View} {j i : ℕ} → ReadSuffix l r s j → PlacedPath s t (node.Inverse j) 1 i → PathDone is-step (λ t. means t) p t i
+      pub backward_read : {s t : View} {j i : ℕ} → ReadSuffix l r s j → PlacedPath s t (node.Inverse j) 1 i → PathDone is_step (λ t. means t) p t i
       backward_read {s} {t} u x = record {
         tree = backward b.tree u.tree;
         reads = took_reads c ∙ ap (λ v. saying Caret [] ∷ v) (b.reads ∙ ap (spell b.tree) (u.reads ∙ ap (λ v. spell u.tree (words v)) (sym x.placed.spots)));
@@ -147,20 +147,20 @@ abbrev link_parts : List Symbol
 link_parts = the Iri ∷ []
 
 abbrev bracket_parts : List Symbol
-bracket_parts = the OpenParen ∷ a is-path ∷ the CloseParen ∷ []
+bracket_parts = the OpenParen ∷ a is_path ∷ the CloseParen ∷ []
 
 abbrev other_parts : List Symbol
-other_parts = the Bang ∷ a is-negation ∷ []
+other_parts = the Bang ∷ a is_negation ∷ []
 
 module _ {p : View} where
   opened_link : (lead (words p.spots) ≡ Bang → ⊥) → (lead (words p.spots) ≡ OpenParen → ⊥) → Went (a is_base ∷ []) (the Iri ∷ []) p p
   opened_link m n = went_open is_base (the Iri ∷ []) p (other_way other_parts (cond (same (lead (words p.spots)) OpenParen) bracket_parts link_parts) m ∙ other_way bracket_parts link_parts n)
 
-  opened_other : lead (words p.spots) ≡ Bang → Went (a is_base ∷ []) (the Bang ∷ a is-negation ∷ []) p p
-  opened_other e = went_open is_base (the Bang ∷ a is-negation ∷ []) p (this_way other_parts (cond (same (lead (words p.spots)) OpenParen) bracket_parts link_parts) e)
+  opened_other : lead (words p.spots) ≡ Bang → Went (a is_base ∷ []) (the Bang ∷ a is_negation ∷ []) p p
+  opened_other e = went_open is_base (the Bang ∷ a is_negation ∷ []) p (this_way other_parts (cond (same (lead (words p.spots)) OpenParen) bracket_parts link_parts) e)
 
-  opened_brackets : lead (words p.spots) ≡ OpenParen → Went (a is_base ∷ []) (the OpenParen ∷ a is-path ∷ the CloseParen ∷ []) p p
-  opened_brackets e = went_open is_base (the OpenParen ∷ a is-path ∷ the CloseParen ∷ []) p
+  opened_brackets : lead (words p.spots) ≡ OpenParen → Went (a is_base ∷ []) (the OpenParen ∷ a is_path ∷ the CloseParen ∷ []) p p
+  opened_brackets e = went_open is_base (the OpenParen ∷ a is_path ∷ the CloseParen ∷ []) p
       (ap (λ s. cond (same s Bang) other_parts (cond (same s OpenParen) bracket_parts link_parts)) e)
 
   pub link_fails : {f : Fault} → (lead (words p.spots) ≡ Bang → ⊥) → (lead (words p.spots) ≡ OpenParen → ⊥) → Failed (the Iri) p f → Failed (a is_base) p f
@@ -178,7 +178,7 @@ module _ {p : View} where
   pub other_sign : {f : Fault} → lead (words p.spots) ≡ Bang → Failed (the Bang) p f → Failed (a is_base) p f
   other_sign e h = failed_in (opened_other e) h
 
-  pub other_out : {q r : View} {n : ℕ} → lead (words p.spots) ≡ Bang → Took Bang p q n → (o : Result ℕ Fault) → PathRead is-negation (λ t. means t) q r o → PathRead is_base (λ t. means t) p r o
+  pub other_out : {q r : View} {n : ℕ} → lead (words p.spots) ≡ Bang → Took Bang p q n → (o : Result ℕ Fault) → PathRead is_negation (λ t. means t) q r o → PathRead is_base (λ t. means t) p r o
   other_out e h (Ok i) x = record {
     is = record {
       tree = other x.is.tree;
@@ -195,10 +195,10 @@ module _ {p : View} where
     brackets_sign h = failed_in (opened_brackets e) h
 
     module _ {q : View} {n : ℕ} (h : Took OpenParen p q n) where
-      pub brackets_inner : {f : Fault} → Failed (a is-path) q f → Failed (a is_base) p f
+      pub brackets_inner : {f : Fault} → Failed (a is_path) q f → Failed (a is_base) p f
       brackets_inner x = failed_in (went_on (opened_brackets e) h.went) x
 
-      module _ {r : View} {i : ℕ} (x : PathDone is-path (λ t. means t) q r i) where
+      module _ {r : View} {i : ℕ} (x : PathDone is_path (λ t. means t) q r i) where
         pub brackets_close : {f : Fault} → Failed (the CloseParen) r f → Failed (a is_base) p f
         brackets_close y = failed_in (went_on (went_on (opened_brackets e) h.went) x.went) y
 
@@ -222,24 +222,24 @@ sign_terms h e = ap (λ s. s.terms) (took_seen h) ∙ e
 -- the members that were read so far; whatever members follow them are members from the start
 pub record MembersSofar (p q : View) : Type 0 where
   pub sofar : List Term
-  pub went : Went (a is-members ∷ []) (a is-members ∷ []) p q
+  pub went : Went (a is_members ∷ []) (a is_members ∷ []) p q
   pub idle : Idle p q
   pub terms : q.seen.terms ≡ p.seen.terms ++ sofar
-  pub goes : (t : Tree is-members) (w : List Word) → words q.spots ≡ spell t w → (u : Tree is-members) × (words p.spots ≡ spell u w) × (means u ≡ sofar ++ means t)
+  pub goes : (t : Tree is_members) (w : List Word) → words q.spots ≡ spell t w → (u : Tree is_members) × (words p.spots ≡ spell u w) × (means u ≡ sofar ++ means t)
 
 pub members_begun : (p : View) → MembersSofar p p
-members_begun p = record { sofar = []; went = went_stay (a is-members ∷ []) p; idle = idle_stay p; terms = sym (append-nil p.seen.terms); goes = λ t w e. (t, e, refl) }
+members_begun p = record { sofar = []; went = went_stay (a is_members ∷ []) p; idle = idle_stay p; terms = sym (append-nil p.seen.terms); goes = λ t w e. (t, e, refl) }
 
 module _ {p q : View} (x : MembersSofar p q) where
   module _ (e : lead (words q.spots) ≡ Bar) where
-    opened_member : Went (a is-members ∷ []) (the Bar ∷ the Iri ∷ a is-members ∷ []) p q
-    opened_member = went_into is-members (the Bar ∷ the Iri ∷ a is-members ∷ []) x.went (this_way (the Bar ∷ the Iri ∷ a is-members ∷ []) (the CloseParen ∷ []) e)
+    opened_member : Went (a is_members ∷ []) (the Bar ∷ the Iri ∷ a is_members ∷ []) p q
+    opened_member = went_into is_members (the Bar ∷ the Iri ∷ a is_members ∷ []) x.went (this_way (the Bar ∷ the Iri ∷ a is_members ∷ []) (the CloseParen ∷ []) e)
 
-    pub member_sign : {f : Fault} → Failed (the Bar) q f → Failed (a is-members) p f
+    pub member_sign : {f : Fault} → Failed (the Bar) q f → Failed (a is_members) p f
     member_sign h = failed_in opened_member h
 
     module _ {r : View} {n : ℕ} (h : Took Bar q r n) where
-      pub member_fails : {f : Fault} → Failed (the Iri) r f → Failed (a is-members) p f
+      pub member_fails : {f : Fault} → Failed (the Iri) r f → Failed (a is_members) p f
       member_fails y = failed_in (went_on opened_member h.went) y
 
       pub member_more : {s : View} {m : ℕ} → Took Iri r s m → MembersSofar p s
@@ -256,10 +256,10 @@ module _ {p q : View} (x : MembersSofar p q) where
           }
 
   module _ (n : lead (words q.spots) ≡ Bar → ⊥) where
-    opened_close : Went (a is-members ∷ []) (the CloseParen ∷ []) p q
-    opened_close = went_into is-members (the CloseParen ∷ []) x.went (other_way (the Bar ∷ the Iri ∷ a is-members ∷ []) (the CloseParen ∷ []) n)
+    opened_close : Went (a is_members ∷ []) (the CloseParen ∷ []) p q
+    opened_close = went_into is_members (the CloseParen ∷ []) x.went (other_way (the Bar ∷ the Iri ∷ a is_members ∷ []) (the CloseParen ∷ []) n)
 
-    pub members_fails : {f : Fault} → Failed (the CloseParen) q f → Failed (a is-members) p f
+    pub members_fails : {f : Fault} → Failed (the CloseParen) q f → Failed (a is_members) p f
     members_fails h = failed_in opened_close h
 
     pub members_read : {r : View} {m : ℕ} → Took CloseParen q r m → ReadMembers p r
@@ -277,7 +277,7 @@ abbrev one_parts : List Symbol
 one_parts = the Iri ∷ []
 
 abbrev several_parts : List Symbol
-several_parts = the OpenParen ∷ the Iri ∷ a is-members ∷ []
+several_parts = the OpenParen ∷ the Iri ∷ a is_members ∷ []
 
 -- the node of a negated set whose members came after the terms of p
 module _ (p : View) {q r : View} {first count i : ℕ} (ms : List Term) (terms : q.seen.terms ≡ p.seen.terms ++ ms) (from : first ≡ length p.seen.terms) (many : count ≡ length q.seen.terms - first) (x : PlacedPath q r (node.Negated first count) (count + 1) i) where
@@ -292,13 +292,13 @@ module _ (p : View) {q r : View} {first count i : ℕ} (ms : List Term) (terms :
 
 module _ {p : View} where
   module _ (n : lead (words p.spots) ≡ OpenParen → ⊥) where
-    opened_one : Went (a is-negation ∷ []) (the Iri ∷ []) p p
-    opened_one = went_open is-negation (the Iri ∷ []) p (other_way several_parts one_parts n)
+    opened_one : Went (a is_negation ∷ []) (the Iri ∷ []) p p
+    opened_one = went_open is_negation (the Iri ∷ []) p (other_way several_parts one_parts n)
 
-    pub one_fails : {f : Fault} → Failed (the Iri) p f → Failed (a is-negation) p f
+    pub one_fails : {f : Fault} → Failed (the Iri) p f → Failed (a is_negation) p f
     one_fails h = failed_in opened_one h
 
-    pub one_read : {q r : View} {m first count i : ℕ} → Took Iri p q m → first ≡ length p.seen.terms → count ≡ length q.seen.terms - first → PlacedPath q r (node.Negated first count) (count + 1) i → PathDone is-negation (λ t. means t) p r i
+    pub one_read : {q r : View} {m first count i : ℕ} → Took Iri p q m → first ≡ length p.seen.terms → count ≡ length q.seen.terms - first → PlacedPath q r (node.Negated first count) (count + 1) i → PathDone is_negation (λ t. means t) p r i
     one_read {q} {r} h from many x =
         let c = content h.word in
         let ts = terms_grow h (iri_term c ∷ []) refl in
@@ -311,21 +311,21 @@ module _ {p : View} where
         }
 
   module _ (e : lead (words p.spots) ≡ OpenParen) where
-    opened_several : Went (a is-negation ∷ []) (the OpenParen ∷ the Iri ∷ a is-members ∷ []) p p
-    opened_several = went_open is-negation (the OpenParen ∷ the Iri ∷ a is-members ∷ []) p (this_way several_parts one_parts e)
+    opened_several : Went (a is_negation ∷ []) (the OpenParen ∷ the Iri ∷ a is_members ∷ []) p p
+    opened_several = went_open is_negation (the OpenParen ∷ the Iri ∷ a is_members ∷ []) p (this_way several_parts one_parts e)
 
-    pub several_sign : {f : Fault} → Failed (the OpenParen) p f → Failed (a is-negation) p f
+    pub several_sign : {f : Fault} → Failed (the OpenParen) p f → Failed (a is_negation) p f
     several_sign h = failed_in opened_several h
 
     module _ {q : View} {n : ℕ} (h : Took OpenParen p q n) where
-      pub several_first : {f : Fault} → Failed (the Iri) q f → Failed (a is-negation) p f
+      pub several_first : {f : Fault} → Failed (the Iri) q f → Failed (a is_negation) p f
       several_first y = failed_in (went_on opened_several h.went) y
 
       module _ {r : View} {m : ℕ} (y : Took Iri q r m) where
-        pub several_fails : {f : Fault} → Failed (a is-members) r f → Failed (a is-negation) p f
+        pub several_fails : {f : Fault} → Failed (a is_members) r f → Failed (a is_negation) p f
         several_fails z = failed_in (went_on (went_on opened_several h.went) y.went) z
 
-        pub several_read : {s t : View} {first count i : ℕ} → ReadMembers r s → first ≡ length p.seen.terms → count ≡ length s.seen.terms - first → PlacedPath s t (node.Negated first count) (count + 1) i → PathDone is-negation (λ t. means t) p t i
+        pub several_read : {s t : View} {first count i : ℕ} → ReadMembers r s → first ≡ length p.seen.terms → count ≡ length s.seen.terms - first → PlacedPath s t (node.Negated first count) (count + 1) i → PathDone is_negation (λ t. means t) p t i
         several_read {s} {t} z from many x =
             let c = content y.word in
             let ms = iri_term c ∷ means z.tree in

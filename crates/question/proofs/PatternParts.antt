@@ -5,7 +5,7 @@ use Rattle.tokens.specs.declared.token.Token.TheVariants.{Iri, Literal, Variable
 use Rattle.tokens.specs.Words.{Word, content, saying, same}
 use Rattle.grammar.specs.declared.refusal.Fault.{Fault}
 use Rattle.grammar.specs.Syntax.{nodes, constant, variable, empty}
-use Rattle.grammar.specs.Grammar.{Kind, is-group, is-items, is-item, is-groups, is-line, is-end, is-path, Tree, braces, no_items, items, a_line, an_option, some_groups, ends, end_iri, end_literal, end_name, spell, means, joined, or_empty, Patterns, iri_term, literal_term}
+use Rattle.grammar.specs.Grammar.{Kind, is_group, is_items, is_item, is_groups, is_line, is_end, is_path, Tree, braces, no_items, items, a_line, an_option, some_groups, ends, end_iri, end_literal, end_name, spell, means, joined, or_empty, Patterns, iri_term, literal_term}
 use Rattle.grammar.specs.Reading.{words}
 use Rattle.grammar.specs.Machine.{Symbol, the, a, parts, lead}
 use Rattle.question.specs.declared.node.End.{End}
@@ -31,17 +31,17 @@ abbrev literal_parts : Token → List Symbol
 literal_parts s = cond (same s Literal) (the Literal ∷ []) variable_parts
 
 module _ {p : View} where
-  opened_iri : lead (words p.spots) ≡ Iri → Went (a is-end ∷ []) (the Iri ∷ []) p p
-  opened_iri e = went_open is-end (the Iri ∷ []) p (this_way (the Iri ∷ []) (literal_parts (lead (words p.spots))) e)
+  opened_iri : lead (words p.spots) ≡ Iri → Went (a is_end ∷ []) (the Iri ∷ []) p p
+  opened_iri e = went_open is_end (the Iri ∷ []) p (this_way (the Iri ∷ []) (literal_parts (lead (words p.spots))) e)
 
-  opened_literal : lead (words p.spots) ≡ Literal → Went (a is-end ∷ []) (the Literal ∷ []) p p
-  opened_literal e = went_open is-end (the Literal ∷ []) p (ap (λ s. cond (same s Iri) (the Iri ∷ []) (literal_parts s)) e)
+  opened_literal : lead (words p.spots) ≡ Literal → Went (a is_end ∷ []) (the Literal ∷ []) p p
+  opened_literal e = went_open is_end (the Literal ∷ []) p (ap (λ s. cond (same s Iri) (the Iri ∷ []) (literal_parts s)) e)
 
   module _ (m : lead (words p.spots) ≡ Iri → ⊥) (n : lead (words p.spots) ≡ Literal → ⊥) where
-    opened_variable : Went (a is-end ∷ []) (the Variable ∷ []) p p
-    opened_variable = went_open is-end (the Variable ∷ []) p (other_way (the Iri ∷ []) (literal_parts (lead (words p.spots))) m ∙ other_way (the Literal ∷ []) variable_parts n)
+    opened_variable : Went (a is_end ∷ []) (the Variable ∷ []) p p
+    opened_variable = went_open is_end (the Variable ∷ []) p (other_way (the Iri ∷ []) (literal_parts (lead (words p.spots))) m ∙ other_way (the Literal ∷ []) variable_parts n)
 
-    pub variable_fails : {f : Fault} → Failed (the Variable) p f → Failed (a is-end) p f
+    pub variable_fails : {f : Fault} → Failed (the Variable) p f → Failed (a is_end) p f
     variable_fails h = failed_in opened_variable h
 
     pub variable_read : {q : View} {i : ℕ} → Took Variable p q i → ReadEnd p q (end.Variable i)
@@ -55,7 +55,7 @@ module _ {p : View} where
       names = omega (arith, (took_number h).within);
     }
 
-  pub iri_fails : {f : Fault} → lead (words p.spots) ≡ Iri → Failed (the Iri) p f → Failed (a is-end) p f
+  pub iri_fails : {f : Fault} → lead (words p.spots) ≡ Iri → Failed (the Iri) p f → Failed (a is_end) p f
   iri_fails e h = failed_in (opened_iri e) h
 
   pub iri_read : {q : View} {i : ℕ} → lead (words p.spots) ≡ Iri → Took Iri p q i → ReadEnd p q (end.Term i)
@@ -69,7 +69,7 @@ module _ {p : View} where
     names = omega arith;
   }
 
-  pub literal_fails : {f : Fault} → lead (words p.spots) ≡ Literal → Failed (the Literal) p f → Failed (a is-end) p f
+  pub literal_fails : {f : Fault} → lead (words p.spots) ≡ Literal → Failed (the Literal) p f → Failed (a is_end) p f
   literal_fails e h = failed_in (opened_literal e) h
 
   pub literal_read : {q : View} {i : ℕ} → lead (words p.spots) ≡ Literal → Took Literal p q i → ReadEnd p q (end.Term i)
@@ -86,25 +86,25 @@ module _ {p : View} where
 -- ---- a line
 
 module _ {p : View} where
-  opened_line : Went (a is-line ∷ []) (a is-end ∷ a is-path ∷ a is-end ∷ the Dot ∷ []) p p
-  opened_line = went_open is-line (a is-end ∷ a is-path ∷ a is-end ∷ the Dot ∷ []) p refl
+  opened_line : Went (a is_line ∷ []) (a is_end ∷ a is_path ∷ a is_end ∷ the Dot ∷ []) p p
+  opened_line = went_open is_line (a is_end ∷ a is_path ∷ a is_end ∷ the Dot ∷ []) p refl
 
-  pub line_first : {f : Fault} → Failed (a is-end) p f → Failed (a is-line) p f
+  pub line_first : {f : Fault} → Failed (a is_end) p f → Failed (a is_line) p f
   line_first h = failed_in opened_line h
 
   module _ {q : View} {x : End} (s : ReadEnd p q x) where
-    pub line_path : {f : Fault} → Failed (a is-path) q f → Failed (a is-line) p f
+    pub line_path : {f : Fault} → Failed (a is_path) q f → Failed (a is_line) p f
     line_path h = failed_in (went_on opened_line s.went) h
 
-    module _ {r : View} {l : ℕ} (t : PathDone is-path (λ t. means t) q r l) where
-      pub line_second : {f : Fault} → Failed (a is-end) r f → Failed (a is-line) p f
+    module _ {r : View} {l : ℕ} (t : PathDone is_path (λ t. means t) q r l) where
+      pub line_second : {f : Fault} → Failed (a is_end) r f → Failed (a is_line) p f
       line_second h = failed_in (went_on (went_on opened_line s.went) t.went) h
 
       module _ {u : View} {y : End} (o : ReadEnd r u y) where
-        pub line_dot : {f : Fault} → Failed (the Dot) u f → Failed (a is-line) p f
+        pub line_dot : {f : Fault} → Failed (the Dot) u f → Failed (a is_line) p f
         line_dot h = failed_in (went_on (went_on (went_on opened_line s.went) t.went) o.went) h
 
-        pub line_read : {v w : View} {n i : ℕ} → Took Dot u v n → PlacedPattern v w (node.Line x l y) 1 i → PatternDone is-line (λ t. means t) p w i
+        pub line_read : {v w : View} {n i : ℕ} → Took Dot u v n → PlacedPattern v w (node.Line x l y) 1 i → PatternDone is_line (λ t. means t) p w i
         line_read {v} {w} d z = record {
           tree = ends s.tree t.tree o.tree;
           reads = s.reads ∙ ap (spell s.tree) (t.reads ∙ ap (spell t.tree) (o.reads ∙ ap (spell o.tree) (took_reads d ∙ ap (λ k. saying Dot [] ∷ words k) (sym z.placed.spots))));
@@ -189,15 +189,15 @@ some_left (Some i) = (Some empty, tt)
 -- ---- an item
 
 abbrev groups_parts : Token → List Symbol
-groups_parts s = cond (same s OpenBrace) (a is-groups ∷ []) (a is-line ∷ [])
+groups_parts s = cond (same s OpenBrace) (a is_groups ∷ []) (a is_line ∷ [])
 
 abbrev option_parts : List Symbol
-option_parts = the Optional ∷ a is-group ∷ []
+option_parts = the Optional ∷ a is_group ∷ []
 
 -- a line or a union: something is read, and then joined to the left
-module _ {k : Kind} {of : Tree k → Patterns} {p q r : View} {j i : ℕ} (left : Option ℕ) (wrap : Tree k → Tree is-item)
+module _ {k : Kind} {of : Tree k → Patterns} {p q r : View} {j i : ℕ} (left : Option ℕ) (wrap : Tree k → Tree is_item)
     (spells : (t : Tree k) (w : List Word) → spell (wrap t) w ≡ spell t w) (joins : (t : Tree k) (l : Option Patterns) → means (wrap t) l ≡ joined l (of t))
-    (opened : Went (a is-item ∷ []) (a k ∷ []) p p) (x : PatternDone k of p q j) (y : Combined left j q r i) where
+    (opened : Went (a is_item ∷ []) (a k ∷ []) p p) (x : PatternDone k of p q j) (y : Combined left j q r i) where
   joined_item : ReadItem left p r i
   joined_item = record {
     tree = wrap x.tree;
@@ -215,44 +215,44 @@ module _ {k : Kind} {of : Tree k → Patterns} {p q r : View} {j i : ℕ} (left 
 
 module _ {p : View} where
   module _ (m : lead (words p.spots) ≡ Optional → ⊥) (n : lead (words p.spots) ≡ OpenBrace → ⊥) where
-    opened_item_line : Went (a is-item ∷ []) (a is-line ∷ []) p p
-    opened_item_line = went_open is-item (a is-line ∷ []) p (other_way option_parts (groups_parts (lead (words p.spots))) m ∙ other_way (a is-groups ∷ []) (a is-line ∷ []) n)
+    opened_item_line : Went (a is_item ∷ []) (a is_line ∷ []) p p
+    opened_item_line = went_open is_item (a is_line ∷ []) p (other_way option_parts (groups_parts (lead (words p.spots))) m ∙ other_way (a is_groups ∷ []) (a is_line ∷ []) n)
 
-    pub item_line_fails : {f : Fault} → Failed (a is-line) p f → Failed (a is-item) p f
+    pub item_line_fails : {f : Fault} → Failed (a is_line) p f → Failed (a is_item) p f
     item_line_fails h = failed_in opened_item_line h
 
-    pub item_line : {q r : View} {left : Option ℕ} {j i : ℕ} → PatternDone is-line (λ t. means t) p q j → Combined left j q r i → ReadItem left p r i
+    pub item_line : {q r : View} {left : Option ℕ} {j i : ℕ} → PatternDone is_line (λ t. means t) p q j → Combined left j q r i → ReadItem left p r i
     item_line {q} {r} {left} x y = joined_item left a_line (λ t w. refl) (λ t l. refl) opened_item_line x y
 
   module _ (e : lead (words p.spots) ≡ OpenBrace) where
-    opened_item_groups : Went (a is-item ∷ []) (a is-groups ∷ []) p p
-    opened_item_groups = went_open is-item (a is-groups ∷ []) p (ap (λ s. cond (same s Optional) option_parts (groups_parts s)) e)
+    opened_item_groups : Went (a is_item ∷ []) (a is_groups ∷ []) p p
+    opened_item_groups = went_open is_item (a is_groups ∷ []) p (ap (λ s. cond (same s Optional) option_parts (groups_parts s)) e)
 
-    pub item_groups_fails : {f : Fault} → Failed (a is-groups) p f → Failed (a is-item) p f
+    pub item_groups_fails : {f : Fault} → Failed (a is_groups) p f → Failed (a is_item) p f
     item_groups_fails h = failed_in opened_item_groups h
 
-    pub item_groups : {q r : View} {left : Option ℕ} {j i : ℕ} → PatternDone is-groups (λ t. means t) p q j → Combined left j q r i → ReadItem left p r i
+    pub item_groups : {q r : View} {left : Option ℕ} {j i : ℕ} → PatternDone is_groups (λ t. means t) p q j → Combined left j q r i → ReadItem left p r i
     item_groups {q} {r} {left} x y = joined_item left some_groups (λ t w. refl) (λ t l. refl) opened_item_groups x y
 
   module _ (e : lead (words p.spots) ≡ Optional) where
-    opened_item_option : Went (a is-item ∷ []) (the Optional ∷ a is-group ∷ []) p p
-    opened_item_option = went_open is-item (the Optional ∷ a is-group ∷ []) p (this_way option_parts (groups_parts (lead (words p.spots))) e)
+    opened_item_option : Went (a is_item ∷ []) (the Optional ∷ a is_group ∷ []) p p
+    opened_item_option = went_open is_item (the Optional ∷ a is_group ∷ []) p (this_way option_parts (groups_parts (lead (words p.spots))) e)
 
-    pub option_sign : {f : Fault} → Failed (the Optional) p f → Failed (a is-item) p f
+    pub option_sign : {f : Fault} → Failed (the Optional) p f → Failed (a is_item) p f
     option_sign h = failed_in opened_item_option h
 
     module _ {q r : View} {n : ℕ} (left : Option ℕ) (l : ℕ) (h : Took Optional p q n) (x : Emptied left q r l) where
       -- whatever stands to the left, nothing more was read for it
-      over : (v : Option Patterns) → Alike left v → Went (a is-item ∷ []) (a is-group ∷ []) p r
-      over v k = went_then (went_on opened_item_option h.went) ((filled left v k x).went (a is-group ∷ []))
+      over : (v : Option Patterns) → Alike left v → Went (a is_item ∷ []) (a is_group ∷ []) p r
+      over v k = went_then (went_on opened_item_option h.went) ((filled left v k x).went (a is_group ∷ []))
 
-      began : Went (a is-item ∷ []) (a is-group ∷ []) p r
+      began : Went (a is_item ∷ []) (a is_group ∷ []) p r
       began = let v = some_left left in over v.0 v.1
 
-      pub option_fails : {f : Fault} → Failed (a is-group) r f → Failed (a is-item) p f
+      pub option_fails : {f : Fault} → Failed (a is_group) r f → Failed (a is_item) p f
       option_fails z = failed_in began z
 
-      pub option_read : {s t : View} {j i : ℕ} → PatternDone is-group (λ t. means t) r s j → PlacedPattern s t (node.Opt l j) 1 i → ReadItem left p t i
+      pub option_read : {s t : View} {j i : ℕ} → PatternDone is_group (λ t. means t) r s j → PlacedPattern s t (node.Opt l j) 1 i → ReadItem left p t i
       option_read {s} {t} z y =
           let some = some_left left in
           let same = (filled left some.0 some.1 x).spots in
@@ -281,23 +281,23 @@ five x y false false true e f = refl
 five x y false false false true f = refl
 five x y false false false false f = refl
 
-items_parts : (s : Token) (b : Bool) → begins_item s ≡ b → parts is-items s ≡ cond b (a is-item ∷ a is-items ∷ []) []
+items_parts : (s : Token) (b : Bool) → begins_item s ≡ b → parts is_items s ≡ cond b (a is_item ∷ a is_items ∷ []) []
 items_parts s b e =
-    five (a is-item ∷ a is-items ∷ []) [] (same s Iri) (same s Literal) (same s Variable) (same s Optional) (same s OpenBrace)
-    ∙ ap (λ v. cond v (a is-item ∷ a is-items ∷ []) []) e
+    five (a is_item ∷ a is_items ∷ []) [] (same s Iri) (same s Literal) (same s Variable) (same s Optional) (same s OpenBrace)
+    ∙ ap (λ v. cond v (a is_item ∷ a is_items ∷ []) []) e
 
 pub record ItemsSofar (p q : View) (left : Option ℕ) : Type 0 where
   pub value : Option Patterns
-  pub went : Went (a is-items ∷ []) (a is-items ∷ []) p q
-  pub goes : (t : Tree is-items) (w : List Word) → words q.spots ≡ spell t w → (u : Tree is-items) × (words p.spots ≡ spell u w) × (means u None ≡ means t value)
+  pub went : Went (a is_items ∷ []) (a is_items ∷ []) p q
+  pub goes : (t : Tree is_items) (w : List Word) → words q.spots ≡ spell t w → (u : Tree is_items) × (words p.spots ≡ spell u w) × (means u None ≡ means t value)
   pub alike : Alike left value
   pub counted : Counted p q 0 (left_nodes value)
   pub held : q.full ≡ false → HeldLeft q left value
 
 pub items_begun : (p : View) → ItemsSofar p p None
-items_begun p = record { value = None; went = went_stay (a is-items ∷ []) p; goes = λ t w e. (t, e, refl); alike = tt; counted = counted_idle (idle_stay p) 0; held = λ f. tt }
+items_begun p = record { value = None; went = went_stay (a is_items ∷ []) p; goes = λ t w e. (t, e, refl); alike = tt; counted = counted_idle (idle_stay p) 0; held = λ f. tt }
 
-item_larger : (t : Tree is-item) (l : Option Patterns) → left_nodes l ≤ nodes (means t l)
+item_larger : (t : Tree is_item) (l : Option Patterns) → left_nodes l ≤ nodes (means t l)
 item_larger (a_line p) None = omega arith
 item_larger (a_line p) (Some l) = omega arith
 item_larger (an_option g) None = omega arith
@@ -307,10 +307,10 @@ item_larger (some_groups g) (Some l) = omega arith
 
 module _ {p q : View} {left : Option ℕ} (x : ItemsSofar p q left) where
   module _ (e : begins_item (lead (words q.spots)) ≡ true) where
-    onto : Went (a is-items ∷ []) (a is-item ∷ a is-items ∷ []) p q
-    onto = went_into is-items (a is-item ∷ a is-items ∷ []) x.went (items_parts (lead (words q.spots)) true e)
+    onto : Went (a is_items ∷ []) (a is_item ∷ a is_items ∷ []) p q
+    onto = went_into is_items (a is_item ∷ a is_items ∷ []) x.went (items_parts (lead (words q.spots)) true e)
 
-    pub item_fails : {f : Fault} → Failed (a is-item) q f → Failed (a is-items) p f
+    pub item_fails : {f : Fault} → Failed (a is_item) q f → Failed (a is_items) p f
     item_fails h = failed_in onto h
 
     pub items_more : {r : View} {i : ℕ} → ReadItem left q r i → ItemsSofar p r (Some i)
@@ -329,7 +329,7 @@ module _ {p q : View} {left : Option ℕ} (x : ItemsSofar p q left) where
       record {
         tree = g.0;
         reads = g.1;
-        went = went_into is-items [] x.went (items_parts (lead (words q.spots)) false e);
+        went = went_into is_items [] x.went (items_parts (lead (words q.spots)) false e);
         alike = subst (Alike left) (sym g.2) x.alike;
         counted = subst (λ v. Counted p q 0 (left_nodes v)) (sym g.2) x.counted;
         held = λ f. subst (HeldLeft q left) (sym g.2) (x.held f);
@@ -338,21 +338,21 @@ module _ {p q : View} {left : Option ℕ} (x : ItemsSofar p q left) where
 -- ---- a group
 
 module _ {p : View} where
-  opened_group : Went (a is-group ∷ []) (the OpenBrace ∷ a is-items ∷ the CloseBrace ∷ []) p p
-  opened_group = went_open is-group (the OpenBrace ∷ a is-items ∷ the CloseBrace ∷ []) p refl
+  opened_group : Went (a is_group ∷ []) (the OpenBrace ∷ a is_items ∷ the CloseBrace ∷ []) p p
+  opened_group = went_open is_group (the OpenBrace ∷ a is_items ∷ the CloseBrace ∷ []) p refl
 
-  pub group_sign : {f : Fault} → Failed (the OpenBrace) p f → Failed (a is-group) p f
+  pub group_sign : {f : Fault} → Failed (the OpenBrace) p f → Failed (a is_group) p f
   group_sign h = failed_in opened_group h
 
   module _ {q : View} {n : ℕ} (h : Took OpenBrace p q n) where
-    pub group_inner : {f : Fault} → Failed (a is-items) q f → Failed (a is-group) p f
+    pub group_inner : {f : Fault} → Failed (a is_items) q f → Failed (a is_group) p f
     group_inner x = failed_in (went_on opened_group h.went) x
 
     module _ {r : View} {o : Option ℕ} (x : ReadItems q r o) where
-      pub group_close : {f : Fault} → Failed (the CloseBrace) r f → Failed (a is-group) p f
+      pub group_close : {f : Fault} → Failed (the CloseBrace) r f → Failed (a is_group) p f
       group_close y = failed_in (went_on (went_on opened_group h.went) x.went) y
 
-      pub group_read : {s t : View} {m i : ℕ} → Took CloseBrace r s m → Emptied o s t i → PatternDone is-group (λ t. means t) p t i
+      pub group_read : {s t : View} {m i : ℕ} → Took CloseBrace r s m → Emptied o s t i → PatternDone is_group (λ t. means t) p t i
       group_read {s} {t} y z =
           let v = means x.tree None in
           let g = filled o v x.alike z in

@@ -8,7 +8,7 @@ use Rattle.grammar.specs.declared.refusal.Reason.{Reason}
 use Rattle.grammar.specs.declared.refusal.Reason.TheVariants.{NoQuestion, TooDeep, TooManyVariables, TooLong}
 use Rattle.grammar.specs.declared.refusal.Fault.{Fault}
 use Rattle.grammar.specs.Syntax.{nodes, empty}
-use Rattle.grammar.specs.Grammar.{is-question, is-group, Tree, whole, spell, means}
+use Rattle.grammar.specs.Grammar.{is_question, is_group, Tree, whole, spell, means}
 use Rattle.grammar.specs.Limits.{nothing, gather, Clear}
 use Rattle.grammar.specs.Reading.{words, Lawful, Begins, Refuses, Faulty}
 use Rattle.grammar.specs.Reading as reading
@@ -24,23 +24,23 @@ use Rattle.question.proofs.PatternParts.{PatternDone}
 
 -- ---- a fault
 
-refuses : (why : Reason) (v : List Word) (x : Word) (z : List Word) (t : Token) (τ : List Symbol) → Reaches (a is-question ∷ []) (v ++ x ∷ z) (the t ∷ τ) (x ∷ z) → Because why (gather nothing v) t x → Refuses why v x
+refuses : (why : Reason) (v : List Word) (x : Word) (z : List Word) (t : Token) (τ : List Symbol) → Reaches (a is_question ∷ []) (v ++ x ∷ z) (the t ∷ τ) (x ∷ z) → Because why (gather nothing v) t x → Refuses why v x
 refuses NoQuestion v x z t τ r b = dead_prefix v r b
 refuses TooDeep v x z t τ r b = (going_prefix v r b.0, b.1)
 refuses TooManyVariables v x z t τ r b = (going_prefix v r b.0, b.1)
 refuses TooLong v x z t τ r b = (going_prefix v r b.0, b.1)
 
-opened : (p : View) → Went (a is-question ∷ []) (a is-group ∷ the End ∷ []) p p
-opened p = went_open is-question (a is-group ∷ the End ∷ []) p refl
+opened : (p : View) → Went (a is_question ∷ []) (a is_group ∷ the End ∷ []) p p
+opened p = went_open is_question (a is_group ∷ the End ∷ []) p refl
 
 module _ (text : List ℕ) {p : View} (spots : p.spots ≡ tokens text) (seen : p.seen ≡ nothing) where
-  faulty : {f : Fault} → Failed (a is-question) p f → Faulty text f
+  faulty : {f : Fault} → Failed (a is_question) p f → Faulty text f
   faulty {f} h =
       let s = h.stops [] in
       let v = words h.passed in
       let z = words h.behind in
       let split : words p.spots ≡ v ++ h.here.word ∷ z = ap words h.split ∙ words-++ h.passed (h.here ∷ h.behind) in
-      let reach = subst (λ u. Reaches (a is-question ∷ []) u (the s.waits ∷ s.below) (h.here.word ∷ z)) split s.reach in
+      let reach = subst (λ u. Reaches (a is_question ∷ []) u (the s.waits ∷ s.below) (h.here.word ∷ z)) split s.reach in
       record {
         before = h.passed;
         here = h.here;
@@ -52,10 +52,10 @@ module _ (text : List ℕ) {p : View} (spots : p.spots ≡ tokens text) (seen : 
         refuses = refuses f.reason v h.here.word z s.waits s.below reach (subst (λ k. Because f.reason (gather k v) s.waits h.here.word) seen s.because);
       }
 
-  pub group_faulty : {f : Fault} → Failed (a is-group) p f → Faulty text f
+  pub group_faulty : {f : Fault} → Failed (a is_group) p f → Faulty text f
   group_faulty h = faulty (failed_in (opened p) h)
 
-  module _ {q : View} {i : ℕ} (g : PatternDone is-group (λ t. means t) p q i) where
+  module _ {q : View} {i : ℕ} (g : PatternDone is_group (λ t. means t) p q i) where
     pub end_faulty : {f : Fault} → Failed (the End) q f → Faulty text f
     end_faulty h = faulty (failed_in (went_on (opened p) g.went) h)
 
@@ -73,12 +73,12 @@ module _ (text : List ℕ) {p : View} (spots : p.spots ≡ tokens text) (seen : 
           sym (gathers_on g.went.passes q.spots ∙ ap (gather q.seen) last)
           ∙ (λ j. gather (seen j) (words ((sym g.went.passes.split ∙ spots) j)))
 
-      pub too_large : p.count ≡ 0 → p.full ≡ false → q.full ≡ true → (t : Tree is-question) × Lawful text t × (64 < nodes (means t))
+      pub too_large : p.count ≡ 0 → p.full ≡ false → q.full ≡ true → (t : Tree is_question) × Lawful text t × (64 < nodes (means t))
       too_large none free full = (whole g.tree, lawful, omega (arith, g.counted.long free full, none))
 
 -- ---- a question
 
-module _ (text : List ℕ) {p : View} (r : Reader) (root : ℕ) (spots : p.spots ≡ tokens text) (seen : p.seen ≡ nothing) (g : PatternDone is-group (λ t. means t) p (view text r) root) (last : words (view text r).spots ≡ end ∷ []) (short : length text ≤ 2048) where
+module _ (text : List ℕ) {p : View} (r : Reader) (root : ℕ) (spots : p.spots ≡ tokens text) (seen : p.seen ≡ nothing) (g : PatternDone is_group (λ t. means t) p (view text r) root) (last : words (view text r).spots ≡ end ∷ []) (short : length text ≤ 2048) where
   pub a_question : p.count ≡ 0 → r.full ≡ false → reading.Question text (asked_at text root r.built)
   a_question none free =
       let seen_is = gathered text spots seen g last short in
@@ -92,6 +92,6 @@ module _ (text : List ℕ) {p : View} (r : Reader) (root : ℕ) (spots : p.spots
       }
 
 -- the nodes that were counted are those of the pattern
-pub counted_all : (text : List ℕ) {p : View} (r : Reader) (root : ℕ) (g : PatternDone is-group (λ t. means t) p (view text r) root) → p.count ≡ 0 → r.full ≡ false
+pub counted_all : (text : List ℕ) {p : View} (r : Reader) (root : ℕ) (g : PatternDone is_group (λ t. means t) p (view text r) root) → p.count ≡ 0 → r.full ≡ false
     → (q : Question) → q.nodes ≡ r.built.nodes → asked q ≡ asked_at text root r.built → q.nodes ≡ nodes (asked q).pattern
 counted_all text r root g none free q kept e = omega (arith, g.counted.short free, none, kept, ap nodes (((g.held free).stands (env text r.built) (sees text r)).is empty), ap (λ x. nodes x.pattern) e)

@@ -1,5 +1,5 @@
 -- What the nodes of a question stand for, whatever its terms and variables are: the arena of a question, for any type of either.
-use Rattle.std.specs.Prelude.{ℕ, List, [], map, slice_index_or}
+use Rattle.std.specs.Prelude.{◌≡◌, ℕ, List, [], map, slice_index_or}
 use Rattle.terms.specs.Terms.{Term}
 use Rattle.grammar.specs.Syntax as grammar
 use Rattle.grammar.specs.Syntax.{Path, Pattern, link, negated, inverse, star, sequence, alternative, constant, variable, empty, line, and, union, opt}
@@ -10,6 +10,7 @@ use Rattle.question.specs.declared.node.PathNode.{PathNode}
 use Rattle.question.specs.declared.node.PathNode.TheVariants as path
 use Rattle.question.specs.declared.node.PatternNode.{PatternNode}
 use Rattle.question.specs.declared.node.PatternNode.TheVariants as pattern
+use Rattle.question.specs.Arena as arena
 use Rattle.question.specs.Arena.{Env, grow, up_from}
 
 -- the meaning at an index, of a node that stands before
@@ -52,3 +53,10 @@ paths_of f ns = grow (path_of f) [] ns
 
 abbrev pub patterns_of : {T V : Type 0} → EnvOf T V → List PatternNode → List (Pattern T V)
 patterns_of e ns = grow (pattern_of e) [] ns
+
+-- Over terms and names this is what the nodes of a question stand for.
+abbrev pub PathsStandAlike : Type 0
+PathsStandAlike = (f : ℕ → Term) (ns : List PathNode) → paths_of f ns ≡ arena.paths_of f ns
+
+abbrev pub PatternsStandAlike : Type 0
+PatternsStandAlike = (e : Env) (ns : List PatternNode) → patterns_of (env_of_names e) ns ≡ arena.patterns_of e ns

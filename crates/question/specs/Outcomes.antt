@@ -2,10 +2,10 @@
 use Rattle.std.specs.Prelude.{◌≡◌, ℕ, ◌<◌, ◌≤◌, Bool, true, false, ◌||◌, List, [], ◌∷◌, ◌++◌, length, Some, None, Option, Result, MatchResult}
 use Rattle.tokens.specs.declared.token.Token.{Token}
 use Rattle.tokens.specs.declared.token.Token.TheVariants as token
-use Rattle.tokens.specs.Words.{Word, sort, same, iri, literal, name, open-brace, close-brace, open-paren, close-paren, dot, bar, slash, caret, star, bang, optional, union, wrong, end}
+use Rattle.tokens.specs.Words.{Word, sort, same, iri, literal, name, open_brace, close_brace, open_paren, close_paren, dot, bar, slash, caret, star, bang, optional, union, wrong, end}
 use Rattle.grammar.specs.declared.refusal.Fault.{Fault}
 use Rattle.grammar.specs.Syntax.{path_nodes, nodes}
-use Rattle.grammar.specs.Grammar.{Kind, is-suffix, is-members, is-end, is-item, is-items, Tree, spell, means, Name, Paths, Patterns, iri_term, literal_term}
+use Rattle.grammar.specs.Grammar.{Kind, is_suffix, is_members, is_end, is_item, is_items, Tree, spell, means, Name, Paths, Patterns, iri_term, literal_term}
 use Rattle.grammar.specs.Limits.{Seen, after, known}
 use Rattle.grammar.specs.Reading.{words}
 use Rattle.grammar.specs.Machine.{Symbol, the, a}
@@ -25,10 +25,10 @@ abbrev pub Numbered : Seen → Word → ℕ → Type 0
 Numbered s (iri x) n = Stands s.terms n (iri_term x)
 Numbered s (literal x) n = Stands s.terms n (literal_term x)
 Numbered s (name x) n = Stands s.names n x
-Numbered s open-brace n = Unit {0}
-Numbered s close-brace n = Unit {0}
-Numbered s open-paren n = Unit {0}
-Numbered s close-paren n = Unit {0}
+Numbered s open_brace n = Unit {0}
+Numbered s close_brace n = Unit {0}
+Numbered s open_paren n = Unit {0}
+Numbered s close_paren n = Unit {0}
 Numbered s dot n = Unit {0}
 Numbered s bar n = Unit {0}
 Numbered s slash n = Unit {0}
@@ -74,26 +74,26 @@ abbrev pub PatternRead : (k : Kind) → (Tree k → Patterns) → View → View 
 PatternRead k of from to r = Outcome (a k) from (λ i. Read k of nodes HeldPattern from to i) r
 
 pub record ReadEnd (from to : View) (x : End) : Type 0 where
-  pub tree : Tree is-end
+  pub tree : Tree is_end
   pub reads : words from.spots ≡ spell tree (words to.spots)
-  pub went : Went (a is-end ∷ []) [] from to
+  pub went : Went (a is_end ∷ []) [] from to
   pub idle : Idle from to
   pub held : HeldEnd to x (means tree)
   pub terms : end_terms x ≤ length to.seen.terms
   pub names : end_names x ≤ length to.seen.names
 
 pub record ReadMembers (from to : View) : Type 0 where
-  pub tree : Tree is-members
+  pub tree : Tree is_members
   pub reads : words from.spots ≡ spell tree (words to.spots)
-  pub went : Went (a is-members ∷ []) [] from to
+  pub went : Went (a is_members ∷ []) [] from to
   pub idle : Idle from to
   pub terms : to.seen.terms ≡ from.seen.terms ++ means tree
 
 -- what stands to the left of a star, or of nothing, is at an index
 pub record ReadSuffix (left : ℕ) (from to : View) (i : ℕ) : Type 0 where
-  pub tree : Tree is-suffix
+  pub tree : Tree is_suffix
   pub reads : words from.spots ≡ spell tree (words to.spots)
-  pub went : Went (a is-suffix ∷ []) [] from to
+  pub went : Went (a is_suffix ∷ []) [] from to
   pub counted : (l : Paths) → Counted from to (path_nodes l) (path_nodes (means tree l))
   pub held : to.full ≡ false → (l : Paths) → HeldPath from left l → HeldPath to i (means tree l)
 
@@ -116,16 +116,16 @@ left_nodes None = 0
 left_nodes (Some p) = nodes p
 
 pub record ReadItem (left : Option ℕ) (from to : View) (i : ℕ) : Type 0 where
-  pub tree : Tree is-item
+  pub tree : Tree is_item
   pub reads : words from.spots ≡ spell tree (words to.spots)
-  pub went : Went (a is-item ∷ []) [] from to
+  pub went : Went (a is_item ∷ []) [] from to
   pub counted : (l : Option Patterns) → Alike left l → Counted from to (left_nodes l) (nodes (means tree l))
   pub held : to.full ≡ false → (l : Option Patterns) → HeldLeft from left l → HeldPattern to i (means tree l)
 
 pub record ReadItems (from to : View) (o : Option ℕ) : Type 0 where
-  pub tree : Tree is-items
+  pub tree : Tree is_items
   pub reads : words from.spots ≡ spell tree (words to.spots)
-  pub went : Went (a is-items ∷ []) [] from to
+  pub went : Went (a is_items ∷ []) [] from to
   pub alike : Alike o (means tree None)
   pub counted : Counted from to 0 (left_nodes (means tree None))
   pub held : to.full ≡ false → HeldLeft to o (means tree None)

@@ -1,6 +1,6 @@
 // The limits on a token that the grammar has at its place, and what is kept of it.
 ghost use Rattle.std.specs.Prelude.{◌≡◌, ◌+◌, ◌-◌, ◌<◌, ◌≤◌, false};
-ghost use Rattle.tokens.specs.Words.{name, open-brace, open-paren};
+ghost use Rattle.tokens.specs.Words.{name, open_brace, open_paren};
 ghost use Rattle.tokens.specs.Lexed.{said, part};
 ghost use Rattle.grammar.specs.Limits.{known};
 ghost use Rattle.question.specs.Arena.{name_of};

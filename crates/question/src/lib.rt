@@ -8,6 +8,7 @@ mod copy;
 mod draft;
 mod expect;
 mod joins;
+mod laws;
 mod node;
 mod paths;
 mod patterns;
@@ -20,6 +21,7 @@ mod spelled;
 mod start;
 
 pub use draft::Draft;
+pub use laws::nodes_stand_alike;
 pub use node::{End, PathNode, PatternNode};
 pub use question::Question;
 pub use span::{Span, TermSpan};

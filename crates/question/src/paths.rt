@@ -1,7 +1,7 @@
 // Reads property paths. Each function reads one kind of the grammar, from the next token on.
 ghost use Rattle.std.specs.Prelude.{ℕ, ◌+◌, ◌-◌, ◌≤◌, List, vec_len, OnOk};
 ghost use Rattle.question.specs.declared.node.PathNode.TheVariants.{Negated};
-ghost use Rattle.grammar.specs.Grammar.{means, is_base, is-members, is-negation, is-path, is-sequence, is-step, is-suffix};
+ghost use Rattle.grammar.specs.Grammar.{means, is_base, is_members, is_negation, is_path, is_sequence, is_step, is_suffix};
 ghost use Rattle.grammar.specs.Machine.{a};
 ghost use Rattle.question.specs.Views.{Ready, Same, view};
 ghost use Rattle.question.specs.Outcomes.{Outcome, PathRead, PlacedPath, ReadMembers, ReadSuffix};
@@ -13,11 +13,11 @@ use grammar::Fault;
 use tokens::Token;
 
 impl Reader {
-    #[cycle(base_path_sequence_step)]
+    #[cycle(path_reading)]
     pub(crate) fn path(&mut self, text: &[u8]) -> Result<usize, Fault>
         requires ready { Ready text.now self.old }
         ensures ready { OnOk result (Ready text.now self.new) }
-        ensures outcome { PathRead is-path (λ t. means t) (view text.now self.old) (view text.now self.new) result }
+        ensures outcome { PathRead is_path (λ t. means t) (view text.now self.old) (view text.now self.new) result }
     {
         let mut left = self.sequence(text)?;
         while let Token::Bar = self.next.token {
@@ -28,11 +28,11 @@ impl Reader {
         Ok(left)
     }
 
-    #[cycle(base_path_sequence_step)]
+    #[cycle(path_reading)]
     fn sequence(&mut self, text: &[u8]) -> Result<usize, Fault>
         requires ready { Ready text.now self.old }
         ensures ready { OnOk result (Ready text.now self.new) }
-        ensures outcome { PathRead is-sequence (λ t. means t) (view text.now self.old) (view text.now self.new) result }
+        ensures outcome { PathRead is_sequence (λ t. means t) (view text.now self.old) (view text.now self.new) result }
     {
         let mut left = self.step(text)?;
         while let Token::Slash = self.next.token {
@@ -44,11 +44,11 @@ impl Reader {
     }
 
     // The inverse covers a base with its star.
-    #[cycle(base_path_sequence_step)]
+    #[cycle(path_reading)]
     fn step(&mut self, text: &[u8]) -> Result<usize, Fault>
         requires ready { Ready text.now self.old }
         ensures ready { OnOk result (Ready text.now self.new) }
-        ensures outcome { PathRead is-step (λ t. means t) (view text.now self.old) (view text.now self.new) result }
+        ensures outcome { PathRead is_step (λ t. means t) (view text.now self.old) (view text.now self.new) result }
     {
         match self.next.token {
             Token::Caret => {
@@ -69,7 +69,7 @@ impl Reader {
         requires ready { Ready text.now self.old }
         requires there { PathThere self.old base }
         ensures ready { OnOk result (Ready text.now self.new) }
-        ensures outcome { Outcome (a is-suffix) (view text.now self.old) (λ i. ReadSuffix base (view text.now self.old) (view text.now self.new) i) result }
+        ensures outcome { Outcome (a is_suffix) (view text.now self.old) (λ i. ReadSuffix base (view text.now self.old) (view text.now self.new) i) result }
     {
         match self.next.token {
             Token::Star => {
@@ -80,7 +80,7 @@ impl Reader {
         }
     }
 
-    #[cycle(base_path_sequence_step)]
+    #[cycle(path_reading)]
     fn base(&mut self, text: &[u8]) -> Result<usize, Fault>
         requires ready { Ready text.now self.old }
         ensures ready { OnOk result (Ready text.now self.new) }
@@ -108,7 +108,7 @@ impl Reader {
     fn negation(&mut self, text: &[u8]) -> Result<usize, Fault>
         requires ready { Ready text.now self.old }
         ensures ready { OnOk result (Ready text.now self.new) }
-        ensures outcome { PathRead is-negation (λ t. means t) (view text.now self.old) (view text.now self.new) result }
+        ensures outcome { PathRead is_negation (λ t. means t) (view text.now self.old) (view text.now self.new) result }
     {
         let first = self.built.terms.len();
         match self.next.token {
@@ -129,7 +129,7 @@ impl Reader {
     fn members(&mut self, text: &[u8]) -> Result<(), Fault>
         requires ready { Ready text.now self.old }
         ensures ready { OnOk result (Ready text.now self.new) }
-        ensures outcome { Outcome (a is-members) (view text.now self.old) (λ _. ReadMembers (view text.now self.old) (view text.now self.new)) result }
+        ensures outcome { Outcome (a is_members) (view text.now self.old) (λ _. ReadMembers (view text.now self.old) (view text.now self.new)) result }
     {
         while let Token::Bar = self.next.token {
             self.expect(text, Token::Bar)?;

@@ -1,6 +1,6 @@
 // Reads graph patterns. Each function reads one kind of the grammar, from the next token on.
 ghost use Rattle.std.specs.Prelude.{OnOk};
-ghost use Rattle.grammar.specs.Grammar.{means, is-end, is-group, is-groups, is-item, is-items, is-line};
+ghost use Rattle.grammar.specs.Grammar.{means, is_end, is_group, is_groups, is_item, is_items, is_line};
 ghost use Rattle.grammar.specs.Machine.{a};
 ghost use Rattle.question.specs.Views.{Ready, view};
 ghost use Rattle.question.specs.Outcomes.{Outcome, PatternRead, ReadEnd, ReadItem, ReadItems};
@@ -12,11 +12,11 @@ use grammar::Fault;
 use tokens::Token;
 
 impl Reader {
-    #[cycle(group_groups_item_items)]
+    #[cycle(group_reading)]
     pub(crate) fn group(&mut self, text: &[u8]) -> Result<usize, Fault>
         requires ready { Ready text.now self.old }
         ensures ready { OnOk result (Ready text.now self.new) }
-        ensures outcome { PatternRead is-group (λ t. means t) (view text.now self.old) (view text.now self.new) result }
+        ensures outcome { PatternRead is_group (λ t. means t) (view text.now self.old) (view text.now self.new) result }
     {
         self.expect(text, Token::OpenBrace)?;
         let inner = self.items(text)?;
@@ -24,11 +24,11 @@ impl Reader {
         Ok(self.or_empty(inner))
     }
 
-    #[cycle(group_groups_item_items)]
+    #[cycle(group_reading)]
     fn items(&mut self, text: &[u8]) -> Result<Option<usize>, Fault>
         requires ready { Ready text.now self.old }
         ensures ready { OnOk result (Ready text.now self.new) }
-        ensures outcome { Outcome (a is-items) (view text.now self.old) (λ o. ReadItems (view text.now self.old) (view text.now self.new) o) result }
+        ensures outcome { Outcome (a is_items) (view text.now self.old) (λ o. ReadItems (view text.now self.old) (view text.now self.new) o) result }
     {
         let mut left = None;
         while self.at_item() {
@@ -38,12 +38,12 @@ impl Reader {
     }
 
     // One item more of a group, joined to what stands to the left of it.
-    #[cycle(group_groups_item_items)]
+    #[cycle(group_reading)]
     fn item(&mut self, text: &[u8], left: Option<usize>) -> Result<usize, Fault>
         requires ready { Ready text.now self.old }
         requires there { LeftThere self.old left }
         ensures ready { OnOk result (Ready text.now self.new) }
-        ensures outcome { Outcome (a is-item) (view text.now self.old) (λ i. ReadItem left (view text.now self.old) (view text.now self.new) i) result }
+        ensures outcome { Outcome (a is_item) (view text.now self.old) (λ i. ReadItem left (view text.now self.old) (view text.now self.new) i) result }
     {
         match self.next.token {
             Token::Optional => {
@@ -64,11 +64,11 @@ impl Reader {
     }
 
     // Groups parted by UNION; one alone is itself.
-    #[cycle(group_groups_item_items)]
+    #[cycle(group_reading)]
     fn groups(&mut self, text: &[u8]) -> Result<usize, Fault>
         requires ready { Ready text.now self.old }
         ensures ready { OnOk result (Ready text.now self.new) }
-        ensures outcome { PatternRead is-groups (λ t. means t) (view text.now self.old) (view text.now self.new) result }
+        ensures outcome { PatternRead is_groups (λ t. means t) (view text.now self.old) (view text.now self.new) result }
     {
         let mut left = self.group(text)?;
         while let Token::Union = self.next.token {
@@ -82,7 +82,7 @@ impl Reader {
     fn line(&mut self, text: &[u8]) -> Result<usize, Fault>
         requires ready { Ready text.now self.old }
         ensures ready { OnOk result (Ready text.now self.new) }
-        ensures outcome { PatternRead is-line (λ t. means t) (view text.now self.old) (view text.now self.new) result }
+        ensures outcome { PatternRead is_line (λ t. means t) (view text.now self.old) (view text.now self.new) result }
     {
         let subject = self.end(text)?;
         let path = self.path(text)?;
@@ -98,7 +98,7 @@ impl Reader {
     fn end(&mut self, text: &[u8]) -> Result<End, Fault>
         requires ready { Ready text.now self.old }
         ensures ready { OnOk result (Ready text.now self.new) }
-        ensures outcome { Outcome (a is-end) (view text.now self.old) (λ x. ReadEnd (view text.now self.old) (view text.now self.new) x) result }
+        ensures outcome { Outcome (a is_end) (view text.now self.old) (λ x. ReadEnd (view text.now self.old) (view text.now self.new) x) result }
     {
         match self.next.token {
             Token::Iri => {

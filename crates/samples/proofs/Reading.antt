@@ -6,7 +6,7 @@ use Rattle.tokens.specs.Lexed.{tokens, cut}
 use Rattle.grammar.specs.declared.refusal.Reason.{Reason}
 use Rattle.terms.specs.Terms.{Term}
 use Rattle.grammar.specs.Syntax.{Pattern, nodes}
-use Rattle.grammar.specs.Grammar.{Tree, is-question, is-path, is-end, is-items, is-item, is_base, whole, braces, no_items, items, a_line, an_option, some_groups, groups, no_unions, ends, end_iri, end_literal, end_name, path, no_alternatives, alternatives, chain, no_steps, steps, forward, backward, once, repeated, predicate, other, one, spell, Name, means}
+use Rattle.grammar.specs.Grammar.{Tree, is_question, is_path, is_end, is_items, is_item, is_base, whole, braces, no_items, items, a_line, an_option, some_groups, groups, no_unions, ends, end_iri, end_literal, end_name, path, no_alternatives, alternatives, chain, no_steps, steps, forward, backward, once, repeated, predicate, other, one, spell, Name, means}
 use Rattle.grammar.specs.Limits.{Seen, nothing, limit, after, gather, Clear}
 use Rattle.grammar.specs.Reading.{words}
 use Rattle.grammar.specs.Numbered.{numbered}
@@ -36,7 +36,7 @@ clear s (x ∷ v) e = let p = and_parts (passes (limit s x)) (is_clear (after s 
 at_most : (n m : ℕ) → leb n m ≡ true → n ≤ m
 at_most n m e = grind arith
 
-asks : (text : List ℕ) (t : Tree is-question) (p : Asked) → leb (length text) 2048 ≡ true → words (tokens text) ≡ spell t []
+asks : (text : List ℕ) (t : Tree is_question) (p : Asked) → leb (length text) 2048 ≡ true → words (tokens text) ≡ spell t []
     → is_clear nothing (words (tokens text)) ≡ true → leb (nodes (means t)) 64 ≡ true
     → numbered (gather nothing (words (tokens text))).names (means t) ≡ p → Asks text p
 asks text t p short derives free small same = (
@@ -54,16 +54,16 @@ asks text t p short derives free small same = (
 
 -- ---- trees
 
-abbrev step : Tree is_base → Tree is-path
+abbrev step : Tree is_base → Tree is_path
 step b = path (chain (forward b once) no_steps) no_alternatives
 
-abbrev row : Tree is-end → Tree is-path → Tree is-end → Tree is-item
+abbrev row : Tree is_end → Tree is_path → Tree is_end → Tree is_item
 row a p b = a_line (ends a p b)
 
-abbrev question : Tree is-items → Tree is-question
+abbrev question : Tree is_items → Tree is_question
 question is = whole (braces is)
 
-abbrev alone : Tree is-item → Tree is-question
+abbrev alone : Tree is_item → Tree is_question
 alone i = question (items i no_items)
 
 values : Asks (codes "{ <m:1> <p:alt>/<p:val> ?v . }") value_of_substitutes
@@ -131,7 +131,7 @@ texts_ask_them = (values, all, naming, named, others, none, given, again, either
 
 -- ---- the questions about feeders
 
-asks_named : (text : List ℕ) (t : Tree is-question) (names : List Name) (p : Pattern Term Name) → leb (length text) 2048 ≡ true → words (tokens text) ≡ spell t []
+asks_named : (text : List ℕ) (t : Tree is_question) (names : List Name) (p : Pattern Term Name) → leb (length text) 2048 ≡ true → words (tokens text) ≡ spell t []
     → is_clear nothing (words (tokens text)) ≡ true → leb (nodes (means t)) 64 ≡ true → (gather nothing (words (tokens text))).names ≡ names → means t ≡ p
     → AsksNamed text names p
 asks_named text t names p short derives free small same its = (
@@ -148,12 +148,12 @@ asks_named text t names p short derives free small same its = (
   its,
 )
 
-abbrev substituting : Tree is-item
+abbrev substituting : Tree is_item
 substituting =
     row (end_iri (codes "b:7")) (path (chain (forward (predicate (codes "p:place")) once) (steps (forward (predicate (codes "p:alt")) once) no_steps)) no_alternatives)
     (end_name (codes "c"))
 
-abbrev filling : Tree is-item
+abbrev filling : Tree is_item
 filling = row (end_name (codes "f")) (path (chain (backward (predicate (codes "p:fits")) once) no_steps) no_alternatives) (end_name (codes "c"))
 
 one_planner : AsksNamed (codes "{ <b:7> <p:place>/<p:alt> ?c . ?f ^<p:fits> ?c . }") first_names first

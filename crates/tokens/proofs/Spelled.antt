@@ -3,7 +3,7 @@ use Rattle.std.proofs.Common.{◌≡◌, ℕ, suc, ◌+◌, ◌-◌, ◌<◌, �
 use Rattle.std.proofs.lemmas.List.{append_assoc, length_push, take_more, drop_at}
 use Rattle.std.proofs.lemmas.Bool.{cond-true, cond-false, cond_both, and_from, and_parts, not-true, not_from_false, eqb-true, eq-eqb, true≢false}
 use Rattle.terms.specs.Bytes.{blank_byte, iri_byte, literal_byte, word_byte}
-use Rattle.tokens.specs.Words.{Word, iri, literal, name, open-brace, close-brace, open-paren, close-paren, dot, bar, slash, caret, star, bang, optional, union, wrong, end}
+use Rattle.tokens.specs.Words.{Word, iri, literal, name, open_brace, close_brace, open_paren, close_paren, dot, bar, slash, caret, star, bang, optional, union, wrong, end}
 use Rattle.tokens.specs.Lexed.{Piece, piece, stray, front, leads, is_nil, same_bytes, final, iri_piece, literal_piece, name_piece, keyword, word_piece, signs, lexeme}
 use Rattle.tokens.specs.Laid.{Filled, Each, Stops, Spells}
 use Rattle.tokens.proofs.Lists.{front_fits, front_take, leads_here, leads_within}
@@ -120,10 +120,10 @@ spelled union body rest h = record {
   reads = take_word (codes "UNION") rest (refl, (refl, (refl, (refl, (refl, tt))))) h.1;
   goes = refl;
 }
-spelled open-brace body rest h = sign open-brace 123 body rest h refl refl refl
-spelled close-brace body rest h = sign close-brace 125 body rest h refl refl refl
-spelled open-paren body rest h = sign open-paren 40 body rest h refl refl refl
-spelled close-paren body rest h = sign close-paren 41 body rest h refl refl refl
+spelled open_brace body rest h = sign open_brace 123 body rest h refl refl refl
+spelled close_brace body rest h = sign close_brace 125 body rest h refl refl refl
+spelled open_paren body rest h = sign open_paren 40 body rest h refl refl refl
+spelled close_paren body rest h = sign close_paren 41 body rest h refl refl refl
 spelled dot body rest h = sign dot 46 body rest h refl refl refl
 spelled bar body rest h = sign bar 124 body rest h refl refl refl
 spelled slash body rest h = sign slash 47 body rest h refl refl refl
@@ -213,7 +213,7 @@ read_word b bs h =
 
 read_sign : (b : ℕ) (bs : List ℕ) → Read b bs (piece (signs b) 1)
 read_sign b bs =
-    may 123 open-brace _ (λ e. e) (may 125 close-brace _ (λ e. e) (may 40 open-paren _ (λ e. e) (may 41 close-paren _ (λ e. e) (may 46 dot _ (λ e. e)
+    may 123 open_brace _ (λ e. e) (may 125 close_brace _ (λ e. e) (may 40 open_paren _ (λ e. e) (may 41 close_paren _ (λ e. e) (may 46 dot _ (λ e. e)
     (may 124 bar _ (λ e. e) (may 47 slash _ (λ e. e) (may 94 caret _ (λ e. e) (may 42 star _ (λ e. e) (may 33 bang wrong (λ e. e) (inl refl))))))))))
   where
     may : (c : ℕ) (x y : Word) → (b ∷ [] ≡ c ∷ [] → Spells x (b ∷ []) bs) → Read b bs (piece y 1) → Read b bs (piece (cond (eqb b c) x y) 1)

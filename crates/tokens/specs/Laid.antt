@@ -1,7 +1,7 @@
 -- What it is for bytes to be tokens with blanks between them. A text has one such layout, which `tokens` finds.
 use Rattle.std.specs.Prelude.{◌≡◌, ℕ, ◌+◌, Bool, true, false, ◌⊎◌, List, [], ◌∷◌, ◌++◌, length, codes}
 use Rattle.terms.specs.Bytes.{blank_byte, iri_byte, literal_byte, word_byte}
-use Rattle.tokens.specs.Words.{Word, iri, literal, name, open-brace, close-brace, open-paren, close-paren, dot, bar, slash, caret, star, bang, optional, union, wrong, end}
+use Rattle.tokens.specs.Words.{Word, iri, literal, name, open_brace, close_brace, open_paren, close_paren, dot, bar, slash, caret, star, bang, optional, union, wrong, end}
 use Rattle.tokens.specs.Lexed.{Spot, tokens}
 
 -- there is a byte
@@ -26,10 +26,10 @@ Spells (literal x) body rest = (body ≡ codes "\"" ++ (x ++ codes "\"")) × Eac
 Spells (name x) body rest = (body ≡ codes "?" ++ x) × Filled x × Each word_byte x × Stops word_byte rest
 Spells optional body rest = (body ≡ codes "OPTIONAL") × Stops word_byte rest
 Spells union body rest = (body ≡ codes "UNION") × Stops word_byte rest
-Spells open-brace body rest = body ≡ codes "{"
-Spells close-brace body rest = body ≡ codes "}"
-Spells open-paren body rest = body ≡ codes "("
-Spells close-paren body rest = body ≡ codes ")"
+Spells open_brace body rest = body ≡ codes "{"
+Spells close_brace body rest = body ≡ codes "}"
+Spells open_paren body rest = body ≡ codes "("
+Spells close_paren body rest = body ≡ codes ")"
 Spells dot body rest = body ≡ codes "."
 Spells bar body rest = body ≡ codes "|"
 Spells slash body rest = body ≡ codes "/"

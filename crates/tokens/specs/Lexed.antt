@@ -4,7 +4,7 @@ use Rattle.terms.specs.Bytes.{blank_byte, iri_byte, literal_byte, word_byte}
 use Rattle.tokens.specs.declared.token.Token.{Token}
 use Rattle.tokens.specs.declared.token.Token.TheVariants.{Iri, Literal, Variable, OpenBrace, CloseBrace, OpenParen, CloseParen, Dot, Bar, Slash, Caret, Star, Bang, Optional, Union, Wrong, End}
 use Rattle.tokens.specs.declared.token.Lexeme.{Lexeme}
-use Rattle.tokens.specs.Words.{Word, iri, literal, name, open-brace, close-brace, open-paren, close-paren, dot, bar, slash, caret, star, bang, optional, union, wrong, end, saying}
+use Rattle.tokens.specs.Words.{Word, iri, literal, name, open_brace, close_brace, open_paren, close_paren, dot, bar, slash, caret, star, bang, optional, union, wrong, end, saying}
 
 -- the longest front whose bytes all pass a test
 abbrev pub front : (ℕ → Bool) → List ℕ → List ℕ
@@ -59,7 +59,7 @@ word_piece bs = let x = front word_byte bs in piece (keyword x) (length x)
 -- the token of one byte
 abbrev pub signs : ℕ → Word
 signs b =
-    cond (b == 123) open-brace (cond (b == 125) close-brace (cond (b == 40) open-paren (cond (b == 41) close-paren (cond (b == 46) dot
+    cond (b == 123) open_brace (cond (b == 125) close_brace (cond (b == 40) open_paren (cond (b == 41) close_paren (cond (b == 46) dot
     (cond (b == 124) bar (cond (b == 47) slash (cond (b == 94) caret (cond (b == 42) star (cond (b == 33) bang wrong)))))))))
 
 -- the token that begins with the byte b, which is no blank, before bs
@@ -81,10 +81,10 @@ abbrev pub final : Word → Bool
 final (iri x) = false
 final (literal x) = false
 final (name x) = false
-final open-brace = false
-final close-brace = false
-final open-paren = false
-final close-paren = false
+final open_brace = false
+final close_brace = false
+final open_paren = false
+final close_paren = false
 final dot = false
 final bar = false
 final slash = false

@@ -5,16 +5,16 @@ use Rattle.tokens.specs.declared.token.Token.TheVariants.{Iri, Literal, Variable
 
 pub data Word : Type 0 where
   iri literal name : List ℕ → Word
-  open-brace close-brace open-paren close-paren dot bar slash caret star bang optional union wrong end : Word
+  open_brace close_brace open_paren close_paren dot bar slash caret star bang optional union wrong end : Word
 
 abbrev pub sort : Word → Token
 sort (iri x) = Iri
 sort (literal x) = Literal
 sort (name x) = Variable
-sort open-brace = OpenBrace
-sort close-brace = CloseBrace
-sort open-paren = OpenParen
-sort close-paren = CloseParen
+sort open_brace = OpenBrace
+sort close_brace = CloseBrace
+sort open_paren = OpenParen
+sort close_paren = CloseParen
 sort dot = Dot
 sort bar = Bar
 sort slash = Slash
@@ -31,10 +31,10 @@ abbrev pub content : Word → List ℕ
 content (iri x) = x
 content (literal x) = x
 content (name x) = x
-content open-brace = []
-content close-brace = []
-content open-paren = []
-content close-paren = []
+content open_brace = []
+content close_brace = []
+content open_paren = []
+content close_paren = []
 content dot = []
 content bar = []
 content slash = []
@@ -51,10 +51,10 @@ abbrev pub saying : Token → List ℕ → Word
 saying Iri x = iri x
 saying Literal x = literal x
 saying Variable x = name x
-saying OpenBrace x = open-brace
-saying CloseBrace x = close-brace
-saying OpenParen x = open-paren
-saying CloseParen x = close-paren
+saying OpenBrace x = open_brace
+saying CloseBrace x = close_brace
+saying OpenParen x = open_paren
+saying CloseParen x = close_paren
 saying Dot x = dot
 saying Bar x = bar
 saying Slash x = slash

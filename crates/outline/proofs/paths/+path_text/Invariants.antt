@@ -1,5 +1,5 @@
 use Rattle.std.proofs.Common.{◌+◌, ◌*◌}
-use Rattle.outline.proofs.paths.+put_one_put_path_put_two.Given as goal
+use Rattle.outline.proofs.paths.+path_text.Given as goal
 
 abbrev pub decreases-put_one : goal.decreases-put_one
 decreases-put_one l = 2 * l.limit + 1

@@ -6,7 +6,7 @@ use Rattle.question.specs.Parts.{env_of}
 use Rattle.outline.proofs.Adding.{then, adds_as}
 use Rattle.question.proofs.Standing.{past_limit, past_all}
 use Rattle.outline.proofs.Standing.{path_here}
-use Rattle.outline.proofs.paths.+put_one_put_path_put_two.Goals as goal
+use Rattle.outline.proofs.paths.+path_text.Goals as goal
 
 pub put_one-returns : goal.put_one-returns
 put_one-returns t c = then c.in_ok-put.ensures (then c.in_ok-put_path.ensures c.put-2.ensures)

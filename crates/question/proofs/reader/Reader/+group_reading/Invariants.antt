@@ -3,7 +3,7 @@ use Rattle.tokens.specs.Lexed.{ahead}
 use Rattle.question.specs.Views.{View, Ready, view, HeldPattern}
 use Rattle.question.proofs.Chains.{Sofar, uniting}
 use Rattle.question.proofs.PatternParts.{ItemsSofar}
-use Rattle.question.proofs.reader.Reader.+group_groups_item_items.Given as goal
+use Rattle.question.proofs.reader.Reader.+group_reading.Given as goal
 
 -- what is left of the text, and then how far down the grammar the function stands
 abbrev left : List ℕ → ℕ → ℕ → ℕ

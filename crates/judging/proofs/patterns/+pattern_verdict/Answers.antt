@@ -1,7 +1,7 @@
 use Rattle.std.proofs.Common.{Some, refl, arith}
 use Rattle.judging.specs.Masked.{asks_at}
 use Rattle.judging.proofs.Placed.{judges_as, pattern_above, ends_there, nothing_judged, second_fails}
-use Rattle.judging.proofs.patterns.+judge_judge_and_judge_opt_judge_union.Goals as goal
+use Rattle.judging.proofs.patterns.+pattern_verdict.Goals as goal
 
 pub judge-returns-in_default : goal.judge-returns-in_default
 judge-returns-in_default t c = nothing_judged c.args.q.now c.args.index c.args.fixed c.in_default.ensures

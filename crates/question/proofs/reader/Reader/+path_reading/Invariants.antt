@@ -1,7 +1,7 @@
 use Rattle.std.proofs.Common.{ℕ, ◌+◌, ◌-◌, ◌*◌, ◌≤◌, List, length}
 use Rattle.question.specs.Views.{View, Ready, view, HeldPath}
 use Rattle.question.proofs.Chains.{Sofar, alternating, stepping}
-use Rattle.question.proofs.reader.Reader.+base_path_sequence_step.Given as goal
+use Rattle.question.proofs.reader.Reader.+path_reading.Given as goal
 
 -- what is left of the text, and then how far down the grammar the function stands
 abbrev left : List ℕ → ℕ → ℕ → ℕ

@@ -1,5 +1,5 @@
 use Rattle.std.proofs.Common.{◌+◌, ◌*◌, max}
-use Rattle.judging.proofs.patterns.+judge_judge_and_judge_opt_judge_union.Given as goal
+use Rattle.judging.proofs.patterns.+pattern_verdict.Given as goal
 
 abbrev pub decreases-judge : goal.decreases-judge
 decreases-judge l = 2 * l.index

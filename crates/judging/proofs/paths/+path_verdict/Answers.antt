@@ -4,7 +4,7 @@ use Rattle.grammar.proofs.Beginning.{first_part_decides}
 use Rattle.question.specs.Parts.{env_of, path_is}
 use Rattle.question.proofs.Standing.{no_path}
 use Rattle.judging.proofs.Placed.{walks_as, path_above}
-use Rattle.judging.proofs.paths.+walkable_walkable_again_walkable_in_turn.Goals as goal
+use Rattle.judging.proofs.paths.+path_verdict.Goals as goal
 
 both : {a b r : Bool} → true ≡ a → r ≡ b → r ≡ a && b
 both {a} {b} {r} e f = f ∙ ap (λ x. x && b) e

@@ -1,5 +1,5 @@
 use Rattle.std.proofs.Common.{◌+◌, ◌*◌, max}
-use Rattle.judging.proofs.paths.+walkable_walkable_again_walkable_in_turn.Given as goal
+use Rattle.judging.proofs.paths.+path_verdict.Given as goal
 
 abbrev pub decreases-walkable : goal.decreases-walkable
 decreases-walkable l = 2 * l.index

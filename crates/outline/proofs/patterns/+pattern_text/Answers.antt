@@ -6,7 +6,7 @@ use Rattle.question.specs.Parts.{env_of}
 use Rattle.outline.proofs.Adding.{then, adds_as}
 use Rattle.question.proofs.Standing.{past_limit, past_all}
 use Rattle.outline.proofs.Standing.{pattern_here}
-use Rattle.outline.proofs.patterns.+put_both_put_pattern.Goals as goal
+use Rattle.outline.proofs.patterns.+pattern_text.Goals as goal
 
 pub put_both-returns : goal.put_both-returns
 put_both-returns t c = then c.in_ok-put.ensures (then c.in_ok-put_pattern.ensures (then c.in_ok-put-2.ensures (then c.in_ok-put_pattern-2.ensures c.put-3.ensures)))

@@ -1,5 +1,5 @@
 use Rattle.std.proofs.Common.{◌+◌, ◌*◌}
-use Rattle.outline.proofs.patterns.+put_both_put_pattern.Given as goal
+use Rattle.outline.proofs.patterns.+pattern_text.Given as goal
 
 abbrev pub decreases-put_both : goal.decreases-put_both
 decreases-put_both l = 2 * l.limit + 1

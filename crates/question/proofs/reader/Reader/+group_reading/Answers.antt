@@ -11,7 +11,7 @@ use Rattle.question.proofs.Placing.{went_pattern, union_placed}
 use Rattle.question.proofs.PathParts.{took_onward, read_onward}
 use Rattle.question.proofs.PatternParts.{group_sign, group_inner, group_close, group_read, item_line_fails, item_line, item_groups_fails, item_groups, option_sign, option_fails, option_read, combined, items_begun, item_fails, items_more, items_read}
 use Rattle.question.proofs.Chains.{uniting, first_fails, begun, ended, sign_fails, part_fails, another}
-use Rattle.question.proofs.reader.Reader.+group_groups_item_items.Goals as goal
+use Rattle.question.proofs.reader.Reader.+group_reading.Goals as goal
 
 -- ---- group
 

@@ -9,7 +9,7 @@ use Rattle.question.proofs.Placing.{went_path, alternative_placed, sequence_plac
 use Rattle.question.proofs.PathParts.{took_onward, read_onward, forward_first, forward_out, backward_sign, backward_first, backward_then, backward_read, link_fails, link_read, other_sign, other_out, brackets_sign, brackets_inner, brackets_close, brackets_read}
 use Rattle.question.proofs.Holding.{onward_then}
 use Rattle.question.proofs.Chains.{alternating, stepping, first_fails, begun, ended, sign_fails, part_fails, another}
-use Rattle.question.proofs.reader.Reader.+base_path_sequence_step.Goals as goal
+use Rattle.question.proofs.reader.Reader.+path_reading.Goals as goal
 
 -- ---- base
 
