@@ -14,7 +14,7 @@ use Rattle.question.specs.declared.node.End.{End}
 use Rattle.question.specs.declared.node.End.TheVariants as end
 use Rattle.question.specs.declared.node.PatternNode.{PatternNode}
 use Rattle.question.specs.declared.node.PatternNode.TheVariants as pattern
-use Rattle.question.specs.Nodes.{path_at, paths_of, path_of, patterns_of, pattern_of, end_of, env_of_names}
+use Rattle.question.specs.Nodes.{meant_path_at, meant_paths, meant_path, meant_patterns, meant_pattern, meant_end, env_of_names}
 use Rattle.question.specs.Asking.{asked}
 use Rattle.question.specs.Behind.{path_from, pattern_from, pattern_names, end_names}
 use Rattle.question.specs.Parts.{env_of, end_at}
@@ -26,9 +26,9 @@ use Rattle.judging.proofs.Placed.{PathThere, PatternThere, ends_there}
 -- ---- paths
 
 abbrev SamePath : {S T : Type 0} → (ℕ → S) → (ℕ → T) → Question → ℕ → Type 0
-SamePath f g q i = (l r : Bool) → walkable (path_at (paths_of f (vec_items q.paths)) i) l r ≡ walkable (path_at (paths_of g (vec_items q.paths)) i) l r
+SamePath f g q i = (l r : Bool) → walkable (meant_path_at (meant_paths f (vec_items q.paths)) i) l r ≡ walkable (meant_path_at (meant_paths g (vec_items q.paths)) i) l r
 
-same_node : {S T : Type 0} (f : ℕ → S) (g : ℕ → T) (q : Question) (i : ℕ) (n : PathNode) → path_from n ≤ i → ((j : ℕ) → j < i → SamePath f g q j) → (l r : Bool) → walkable (path_of f (paths_of f (vec_items q.paths)) n) l r ≡ walkable (path_of g (paths_of g (vec_items q.paths)) n) l r
+same_node : {S T : Type 0} (f : ℕ → S) (g : ℕ → T) (q : Question) (i : ℕ) (n : PathNode) → path_from n ≤ i → ((j : ℕ) → j < i → SamePath f g q j) → (l r : Bool) → walkable (meant_path f (meant_paths f (vec_items q.paths)) n) l r ≡ walkable (meant_path g (meant_paths g (vec_items q.paths)) n) l r
 same_node f g q i (path.Link t) le h l r = refl
 same_node f g q i (path.Negated first count) le h l r = refl
 same_node f g q i (path.Inverse p) le h l r = h p (omega arith) r l
@@ -62,18 +62,18 @@ same_walk f g q i = below_path f g q (suc i) i (omega arith)
 abbrev SamePattern : List ℕ → Question → ℕ → Type 0
 SamePattern numbers q i = ((m : ℕ) → judged (asks_by numbers q i) m ≡ judged (asks_at q i) m) × (sure_mask (asks_by numbers q i) ≡ sure_mask (asks_at q i))
 
-same_fixed : (f : ℕ → ℕ) (q : Question) (m : ℕ) (a : End) → distinct (asked q).names ≡ true → end_names a ≤ length (asked q).names → fixed (member m) (end_of f (λ v. v) a) ≡ fixed (member m) (numbered_end (asked q).names (end_at q a))
+same_fixed : (f : ℕ → ℕ) (q : Question) (m : ℕ) (a : End) → distinct (asked q).names ≡ true → end_names a ≤ length (asked q).names → fixed (member m) (meant_end f (λ v. v) a) ≡ fixed (member m) (numbered_end (asked q).names (end_at q a))
 same_fixed f q m (end.Term t) d le = refl
 same_fixed f q m (end.Variable v) d le = ap (member m) (sym (place_at (asked q).names v d (omega arith)))
 
-same_mask : (f : ℕ → ℕ) (q : Question) (a : End) → distinct (asked q).names ≡ true → end_names a ≤ length (asked q).names → end_mask (end_of f (λ v. v) a) ≡ end_mask (numbered_end (asked q).names (end_at q a))
+same_mask : (f : ℕ → ℕ) (q : Question) (a : End) → distinct (asked q).names ≡ true → end_names a ≤ length (asked q).names → end_mask (meant_end f (λ v. v) a) ≡ end_mask (numbered_end (asked q).names (end_at q a))
 same_mask f q (end.Term t) d le = refl
 same_mask f q (end.Variable v) d le = ap (λ n. 2 ^ n) (sym (place_at (asked q).names v d (omega arith)))
 
 -- what a node's verdict says of numbers and of names
 record SameNode (numbers : List ℕ) (q : Question) (n : PatternNode) : Type 0 where
-  verdict : (m : ℕ) → judged (pattern_of (by_number numbers q) (patterns_of (by_number numbers q) (vec_items q.patterns)) n) m ≡ judged (numbered (asked q).names (pattern_of (env_of_names (env_of q)) (patterns_of (env_of_names (env_of q)) (vec_items q.patterns)) n)) m
-  mask : sure_mask (pattern_of (by_number numbers q) (patterns_of (by_number numbers q) (vec_items q.patterns)) n) ≡ sure_mask (numbered (asked q).names (pattern_of (env_of_names (env_of q)) (patterns_of (env_of_names (env_of q)) (vec_items q.patterns)) n))
+  verdict : (m : ℕ) → judged (meant_pattern (by_number numbers q) (meant_patterns (by_number numbers q) (vec_items q.patterns)) n) m ≡ judged (numbered (asked q).names (meant_pattern (env_of_names (env_of q)) (meant_patterns (env_of_names (env_of q)) (vec_items q.patterns)) n)) m
+  mask : sure_mask (meant_pattern (by_number numbers q) (meant_patterns (by_number numbers q) (vec_items q.patterns)) n) ≡ sure_mask (numbered (asked q).names (meant_pattern (env_of_names (env_of q)) (meant_patterns (env_of_names (env_of q)) (vec_items q.patterns)) n))
 
 same_pattern_node : (numbers : List ℕ) (q : Question) (i : ℕ) (n : PatternNode) → distinct (asked q).names ≡ true → pattern_from n ≤ i → pattern_names n ≤ length (asked q).names → ((j : ℕ) → j < i → SamePattern numbers q j) → SameNode numbers q n
 same_pattern_node numbers q i pattern.Empty d le names h = record { verdict = λ m. refl; mask = refl }

@@ -14,23 +14,23 @@ use Rattle.question.specs.Arena as arena
 use Rattle.question.specs.Arena.{Env, grow, up_from}
 
 -- the meaning at an index, of a node that stands before
-abbrev pub path_at : {T : Type 0} → List (Path T) → ℕ → Path T
-path_at ps i = slice_index_or ps i (negated [])
+abbrev pub meant_path_at : {T : Type 0} → List (Path T) → ℕ → Path T
+meant_path_at ps i = slice_index_or ps i (negated [])
 
-abbrev pub pattern_at : {T V : Type 0} → List (Pattern T V) → ℕ → Pattern T V
-pattern_at ps i = slice_index_or ps i empty
+abbrev pub meant_pattern_at : {T V : Type 0} → List (Pattern T V) → ℕ → Pattern T V
+meant_pattern_at ps i = slice_index_or ps i empty
 
-abbrev pub path_of : {T : Type 0} → (ℕ → T) → List (Path T) → PathNode → Path T
-path_of f ps (path.Link t) = link (f t)
-path_of f ps (path.Negated i n) = negated (map f (up_from i n))
-path_of f ps (path.Inverse p) = inverse (path_at ps p)
-path_of f ps (path.Star p) = star (path_at ps p)
-path_of f ps (path.Sequence p q) = sequence (path_at ps p) (path_at ps q)
-path_of f ps (path.Alternative p q) = alternative (path_at ps p) (path_at ps q)
+abbrev pub meant_path : {T : Type 0} → (ℕ → T) → List (Path T) → PathNode → Path T
+meant_path f ps (path.Link t) = link (f t)
+meant_path f ps (path.Negated i n) = negated (map f (up_from i n))
+meant_path f ps (path.Inverse p) = inverse (meant_path_at ps p)
+meant_path f ps (path.Star p) = star (meant_path_at ps p)
+meant_path f ps (path.Sequence p q) = sequence (meant_path_at ps p) (meant_path_at ps q)
+meant_path f ps (path.Alternative p q) = alternative (meant_path_at ps p) (meant_path_at ps q)
 
-abbrev pub end_of : {T V : Type 0} → (ℕ → T) → (ℕ → V) → End → grammar.End T V
-end_of f g (end.Term t) = constant (f t)
-end_of f g (end.Variable v) = variable (g v)
+abbrev pub meant_end : {T V : Type 0} → (ℕ → T) → (ℕ → V) → End → grammar.End T V
+meant_end f g (end.Term t) = constant (f t)
+meant_end f g (end.Variable v) = variable (g v)
 
 -- what terms, variables and paths stand for by number
 pub record EnvOf (T V : Type 0) : Type 0 where
@@ -41,22 +41,22 @@ pub record EnvOf (T V : Type 0) : Type 0 where
 abbrev pub env_of_names : Env → EnvOf Term Name
 env_of_names e = record { term = e.term; name = e.name; path = e.path }
 
-abbrev pub pattern_of : {T V : Type 0} → EnvOf T V → List (Pattern T V) → PatternNode → Pattern T V
-pattern_of e ps pattern.Empty = empty
-pattern_of e ps (pattern.Line a p b) = line (end_of e.term e.name a) (e.path p) (end_of e.term e.name b)
-pattern_of e ps (pattern.And p q) = and (pattern_at ps p) (pattern_at ps q)
-pattern_of e ps (pattern.Union p q) = union (pattern_at ps p) (pattern_at ps q)
-pattern_of e ps (pattern.Opt p q) = opt (pattern_at ps p) (pattern_at ps q)
+abbrev pub meant_pattern : {T V : Type 0} → EnvOf T V → List (Pattern T V) → PatternNode → Pattern T V
+meant_pattern e ps pattern.Empty = empty
+meant_pattern e ps (pattern.Line a p b) = line (meant_end e.term e.name a) (e.path p) (meant_end e.term e.name b)
+meant_pattern e ps (pattern.And p q) = and (meant_pattern_at ps p) (meant_pattern_at ps q)
+meant_pattern e ps (pattern.Union p q) = union (meant_pattern_at ps p) (meant_pattern_at ps q)
+meant_pattern e ps (pattern.Opt p q) = opt (meant_pattern_at ps p) (meant_pattern_at ps q)
 
-abbrev pub paths_of : {T : Type 0} → (ℕ → T) → List PathNode → List (Path T)
-paths_of f ns = grow (path_of f) [] ns
+abbrev pub meant_paths : {T : Type 0} → (ℕ → T) → List PathNode → List (Path T)
+meant_paths f ns = grow (meant_path f) [] ns
 
-abbrev pub patterns_of : {T V : Type 0} → EnvOf T V → List PatternNode → List (Pattern T V)
-patterns_of e ns = grow (pattern_of e) [] ns
+abbrev pub meant_patterns : {T V : Type 0} → EnvOf T V → List PatternNode → List (Pattern T V)
+meant_patterns e ns = grow (meant_pattern e) [] ns
 
 -- Over terms and names this is what the nodes of a question stand for.
 abbrev pub PathsStandAlike : Type 0
-PathsStandAlike = (f : ℕ → Term) (ns : List PathNode) → paths_of f ns ≡ arena.paths_of f ns
+PathsStandAlike = (f : ℕ → Term) (ns : List PathNode) → meant_paths f ns ≡ arena.paths_of f ns
 
 abbrev pub PatternsStandAlike : Type 0
-PatternsStandAlike = (e : Env) (ns : List PatternNode) → patterns_of (env_of_names e) ns ≡ arena.patterns_of e ns
+PatternsStandAlike = (e : Env) (ns : List PatternNode) → meant_patterns (env_of_names e) ns ≡ arena.patterns_of e ns
