@@ -3,7 +3,7 @@
 # The scanner is built twice: it looks for line ends byte by byte, and by the C library's memchr.
 set -eu
 cd "$(dirname "$0")/../.."
-(cd crates/web_bench && rt run < /dev/null > /dev/null)
+(cd crates/web_bench && rt run < /dev/null > /dev/null 2>&1)
 work=$(mktemp -d)
 trap 'rm -r "$work"' EXIT
 cc -O3 -o "$work/plain" tools/web-bench/scanner.c
