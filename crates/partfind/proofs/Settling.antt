@@ -1,5 +1,5 @@
 -- The answer to the question of an input's front is the answer to the question of the input.
-use Rattle.std.proofs.Common.{◌≡◌, ℕ, ◌<◌, ◌⊎◌, List, length, take, Ok, Err, Result, sym, subst, inl, inr, arith}
+use Rattle.std.proofs.Common.{◌≡◌, ℕ, ◌<◌, ◌⊎◌, List, length, Ok, Err, Result, sym, subst, inl, inr, arith}
 use Rattle.grammar.specs.declared.refusal.Refusal.{Refusal}
 use Rattle.grammar.specs.declared.refusal.Refusal.TheVariants.{TextTooLong, TooManyNodes, At}
 use Rattle.grammar.specs.Reading.{Asked}

@@ -1,5 +1,5 @@
 -- What the nodes of a question stand for. Nodes are read in order, and each has the meanings of those before it at hand.
-use Rattle.std.specs.Prelude.{◌≡◌, ℕ, zero, suc, ◌+◌, ◌-◌, ◌<◌, ◌≤◌, List, [], ◌∷◌, ◌++◌, map, length, slice_index_or}
+use Rattle.std.specs.Prelude.{ℕ, zero, suc, ◌+◌, List, [], ◌∷◌, ◌++◌, map, slice_index_or}
 use Rattle.terms.specs.Terms.{Term}
 use Rattle.tokens.specs.Lexed.{part}
 use Rattle.grammar.specs.Syntax.{link, negated, inverse, star, sequence, alternative, constant, variable, empty, line, and, union, opt}
