@@ -3,9 +3,9 @@
 # The scanner is built twice: it looks for line ends byte by byte, and by the C library's memchr.
 set -eu
 cd "$(dirname "$0")/../.."
-(cd crates/web_bench && rt run < /dev/null > /dev/null 2>&1)
 work=$(mktemp -d)
 trap 'rm -r "$work"' EXIT
+(cd crates/web_bench && rt run < /dev/null > "$work/build" 2>&1) || { cat "$work/build" >&2; exit 1; }
 cc -O3 -o "$work/plain" tools/web-bench/scanner.c
 cc -O3 -DMEMCHR -o "$work/memchr" tools/web-bench/scanner.c
 cp crates/web_bench/out/web_bench "$work/proved"
