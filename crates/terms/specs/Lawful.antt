@@ -1,5 +1,6 @@
 -- Which bytes are an IRI or a literal, and which terms may occur. The limits are in bytes.
-use Rattle.std.specs.Prelude.{ℕ, Bool, true, ◌&&◌, List, [], ◌∷◌, length, nat_le}
+use Rattle.std.specs.Prelude.{ℕ, Bool, ◌&&◌, List, length, nat_le}
+use Rattle.std.specs.List.{list_all}
 use Rattle.terms.specs.Bytes.{iri_byte, literal_byte}
 use Rattle.terms.specs.Terms.{Term}
 use Rattle.terms.specs.declared.kind.Kind.{Kind}
@@ -7,16 +8,18 @@ use Rattle.terms.specs.declared.kind.Kind.TheVariants.{Iri, Literal}
 
 -- every byte passes a test
 abbrev pub every : (ℕ → Bool) → List ℕ → Bool
-every p [] = true
-every p (b ∷ bs) = p b && every p bs
+every p bs = list_all p bs
 
--- an IRI has 1 to 128 bytes
+-- an IRI has 1 to 128 bytes, a literal 0 to 128
+abbrev pub fitting : Kind → ℕ → Bool
+fitting Iri n = nat_le 1 n && nat_le n 128
+fitting Literal n = nat_le n 128
+
 abbrev pub is_iri : List ℕ → Bool
-is_iri x = nat_le 1 (length x) && nat_le (length x) 128 && every iri_byte x
+is_iri x = fitting Iri (length x) && every iri_byte x
 
--- a literal has 0 to 128 bytes
 abbrev pub is_literal : List ℕ → Bool
-is_literal x = nat_le (length x) 128 && every literal_byte x
+is_literal x = fitting Literal (length x) && every literal_byte x
 
 abbrev pub lawful_bytes : Kind → List ℕ → Bool
 lawful_bytes Iri x = is_iri x

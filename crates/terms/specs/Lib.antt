@@ -1,3 +1,5 @@
 pub mod Bytes
 pub mod Lawful
+pub mod Marks
 pub mod Terms
+pub mod Unwritten

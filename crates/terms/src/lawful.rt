@@ -1,31 +1,19 @@
-// Which bytes are an IRI, and the numbers of the two kinds.
+// Which bytes are an IRI.
 ghost use Rattle.std.specs.Prelude.{◌≡◌};
-ghost use Rattle.terms.specs.Lawful.{is_iri, kind_number};
+ghost use Rattle.terms.specs.Bytes.{iri_byte};
+ghost use Rattle.terms.specs.Lawful.{every, is_iri};
 
 use crate::bytes::is_iri_byte;
 use crate::kind::Kind;
 
+fn are_iri_bytes(bytes: &[u8]) -> bool
+    ensures { result ≡ every iri_byte bytes.now }
+{
+    bytes.iter().all(|b| is_iri_byte(*b))
+}
+
 pub fn is_iri(bytes: &[u8]) -> bool
     ensures { result ≡ is_iri bytes.now }
 {
-    if bytes.is_empty() || bytes.len() > 128 {
-        return false;
-    }
-    for b in bytes {
-        if !is_iri_byte(*b) {
-            return false;
-        }
-    }
-    true
-}
-
-impl Kind {
-    pub fn number(self) -> u8
-        ensures { result ≡ kind_number self }
-    {
-        match self {
-            Kind::Iri => 1,
-            Kind::Literal => 2,
-        }
-    }
+    Kind::Iri.fits(bytes.len()) && are_iri_bytes(bytes)
 }
