@@ -1,6 +1,7 @@
 -- Runs of bytes, and the bytes of a text from an offset on.
-use Rattle.std.proofs.Common.{◌≡◌, ℕ, suc, ◌+◌, ◌<◌, ◌≤◌, Bool, true, false, cond, eqb, ◌⊎◌, List, [], ◌∷◌, length, get_or, take, drop, sym, refl, ap, ◌∙◌, inl, inr, arith}
+use Rattle.std.proofs.Common.{◌≡◌, ℕ, suc, ◌+◌, ◌<◌, ◌≤◌, Bool, true, false, cond, eqb, ◌⊎◌, List, [], ◌∷◌, length, get_or, take, take_while, drop, sym, refl, ap, ◌∙◌, inl, inr, arith}
 use Rattle.std.proofs.lemmas.List.{drop_all, drop_more}
+use Rattle.std.proofs.lemmas.List.Sums.{take_while-cons}
 use Rattle.std.proofs.lemmas.Bool.{cases_lt, true≢false}
 use Rattle.tokens.specs.Lexed.{front, leads, is_nil}
 
@@ -19,6 +20,15 @@ front_take p (b ∷ bs) = go (p b) (front_take p bs)
     go : (t : Bool) → take (length (front p bs)) bs ≡ front p bs → take (length (cond t (b ∷ front p bs) [])) (b ∷ bs) ≡ cond t (b ∷ front p bs) []
     go true h = ap (λ r. b ∷ r) h
     go false h = refl
+
+-- what the library takes while a test passes is such a run
+pub taken : (p : ℕ → Bool) (bs : List ℕ) → length (take_while p bs) ≡ length (front p bs)
+taken p [] = refl
+taken p (b ∷ bs) = ap length (take_while-cons p b bs) ∙ more (p b) (taken p bs)
+  where
+    more : (t : Bool) → length (take_while p bs) ≡ length (front p bs) → length (cond t (b ∷ take_while p bs) []) ≡ length (cond t (b ∷ front p bs) [])
+    more true e = ap suc e
+    more false e = refl
 
 -- a run goes on while its bytes pass the test
 pub front_more : (p : ℕ → Bool) (bs : List ℕ) (i : ℕ) → i < length bs → p (get_or bs i 0) ≡ true → i + length (front p (drop i bs)) ≡ i + 1 + length (front p (drop (i + 1) bs))

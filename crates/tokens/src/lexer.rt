@@ -1,9 +1,10 @@
 // One token at a time, straight from the bytes of the text.
-ghost use Rattle.std.specs.Prelude.{◌≡◌, ◌+◌, ◌<◌, true, length, drop, slice_index};
+ghost use Rattle.std.specs.Prelude.{◌≡◌, ◌+◌, ◌^◌, ◌<◌, true, length, drop, slice_index};
 ghost use Rattle.terms.specs.Bytes.{word_byte};
 ghost use Rattle.tokens.specs.Words.{sort};
 ghost use Rattle.tokens.specs.Lexed.{First, leads, iri_piece, literal_piece, name_piece, word_piece, lexeme, signs, keyword as keyword_of};
 ghost use Rattle.tokens.specs.Pieces.{Reads};
+ghost use Rattle.tokens.specs.declared.token.Token.TheVariants.{Wrong};
 
 use crate::runs::{Class, run_end};
 use crate::token::{Lexeme, Token};
@@ -14,6 +15,18 @@ fn stands(text: &[u8], at: usize, b: u8) -> bool
     ensures { result ≡ leads b (drop at text.now) }
 {
     at < text.len() && text[at] == b
+}
+
+// A byte that begins no token.
+fn stray(start: usize) -> Lexeme
+    requires { start + 1 < 2 ^ 64 }
+    ensures { result ≡ record { token = Wrong; start = start; end = start + 1 } }
+{
+    Lexeme {
+        token: Token::Wrong,
+        start,
+        end: start + 1,
+    }
 }
 
 // The IRI whose `<` stands at `start`. No IRI is empty.
@@ -29,11 +42,7 @@ fn iri(text: &[u8], start: usize) -> Lexeme
             end: end + 1,
         }
     } else {
-        Lexeme {
-            token: Token::Wrong,
-            start,
-            end: start + 1,
-        }
+        stray(start)
     }
 }
 
@@ -50,11 +59,7 @@ fn literal(text: &[u8], start: usize) -> Lexeme
             end: end + 1,
         }
     } else {
-        Lexeme {
-            token: Token::Wrong,
-            start,
-            end: start + 1,
-        }
+        stray(start)
     }
 }
 
@@ -71,21 +76,19 @@ fn variable(text: &[u8], start: usize) -> Lexeme
             end,
         }
     } else {
-        Lexeme {
-            token: Token::Wrong,
-            start,
-            end: start + 1,
-        }
+        stray(start)
     }
 }
 
 fn keyword(word: &[u8]) -> Token
     ensures { result ≡ sort (keyword_of word.now) }
 {
-    match word {
-        b"OPTIONAL" => Token::Optional,
-        b"UNION" => Token::Union,
-        _ => Token::Wrong,
+    if word == b"OPTIONAL".as_slice() {
+        Token::Optional
+    } else if word == b"UNION".as_slice() {
+        Token::Union
+    } else {
+        Token::Wrong
     }
 }
 

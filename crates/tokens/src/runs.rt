@@ -1,5 +1,5 @@
 // Runs of bytes of one class, as long as they can be.
-ghost use Rattle.std.specs.Prelude.{◌≡◌, ◌+◌, length, drop};
+ghost use Rattle.std.specs.Prelude.{◌≡◌, ◌+◌, length, drop, take_while};
 ghost use Rattle.tokens.specs.Lexed.{front};
 ghost use Rattle.tokens.specs.Runs.{passes};
 
@@ -25,13 +25,20 @@ fn belongs(b: u8, class: Class) -> bool
     }
 }
 
+// How many bytes the longest run of a class has that begins these.
+fn run(bytes: &[u8], class: Class) -> usize
+    ensures { result ≡ length (take_while (passes class) bytes.now) }
+{
+    bytes.iter().take_while(|b| belongs(**b, class)).count()
+}
+
 // Where the longest run of bytes of a class ends that begins at `from`.
 pub fn run_end(text: &[u8], from: usize, class: Class) -> usize
     ensures { result ≡ from + length (front (passes class) (drop from text.now)) }
 {
-    let mut end = from;
-    while end < text.len() && belongs(text[end], class) {
-        end += 1;
+    if from < text.len() {
+        from + run(&text[from..], class)
+    } else {
+        from
     }
-    end
 }

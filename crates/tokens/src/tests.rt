@@ -1,5 +1,5 @@
 use crate::lexer::next;
-use crate::token::Token;
+use crate::token::{Lexeme, Token};
 
 // A text, and its first token with the token's offsets.
 const ROWS: [(&str, Token, usize, usize); 12] = [
@@ -25,10 +25,6 @@ const ROWS: [(&str, Token, usize, usize); 12] = [
 fn first_tokens(rt: HostRuntime) {
     for (text, token, start, end) in ROWS {
         let found = next(text.as_bytes(), 0);
-        assert!(rt;
-            found.token.is(token) && found.start == start && found.end == end,
-            "{}",
-            text
-        );
+        assert!(rt; found == Lexeme { token, start, end }, "{}", text);
     }
 }

@@ -1,5 +1,5 @@
 // The sorts of token. What an IRI, a literal or a variable says is found by the token's place in the text.
-#[derive(Clone, Copy)]
+#[derive(Clone, Copy, PartialEq, Eq)]
 pub enum Token {
     Iri,
     Literal,
@@ -23,7 +23,7 @@ pub enum Token {
 }
 
 // A token with the offsets of its first byte and of the byte after its last.
-#[derive(Clone, Copy)]
+#[derive(Clone, Copy, PartialEq, Eq)]
 pub struct Lexeme {
     pub token: Token,
     pub start: usize,

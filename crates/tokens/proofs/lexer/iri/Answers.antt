@@ -1,4 +1,5 @@
-use Rattle.std.proofs.Common.{arith}
+use Rattle.std.proofs.Common.{arith, sym, subst}
+use Rattle.tokens.specs.Pieces.{Reads}
 use Rattle.tokens.proofs.Lists.{leads_within}
 use Rattle.tokens.proofs.Pieced.{iri_read, iri_short, iri_open}
 use Rattle.tokens.proofs.lexer.iri.Goals as goal
@@ -12,7 +13,7 @@ returns-then-stands c = iri_read c.args.text.now c.args.start c.run_end-end.resu
 
 pub returns-else-end-start : goal.returns-else-end-start
 returns-else-end-start c =
-    elim c.else-end-start.branch [
+    subst (Reads c.args.text.now c.args.start _) (sym c.stray.ensures) (elim c.else-end-start.branch [
       | else-end-start-via-then-end-start+else-stands w ↦ iri_open c.args.text.now c.args.start c.run_end-end.result c.run_end-end.ensures w.if-stands.ensures c.requires
       | else-end-start-via-else-end-start w ↦ iri_short c.args.text.now c.args.start c.run_end-end.result c.run_end-end.ensures (omega (arith, w.if-end-start.false)) c.requires
-    ]
+    ])

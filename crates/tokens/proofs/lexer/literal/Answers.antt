@@ -1,4 +1,5 @@
-use Rattle.std.proofs.Common.{arith}
+use Rattle.std.proofs.Common.{arith, sym, subst}
+use Rattle.tokens.specs.Pieces.{Reads}
 use Rattle.tokens.proofs.Lists.{leads_within}
 use Rattle.tokens.proofs.Pieced.{literal_read, literal_open}
 use Rattle.tokens.proofs.lexer.literal.Goals as goal
@@ -10,4 +11,4 @@ pub returns-then-stands : goal.returns-then-stands
 returns-then-stands c = literal_read c.args.text.now c.args.start c.run_end-end.result c.run_end-end.ensures c.if-stands.ensures
 
 pub returns-else-stands : goal.returns-else-stands
-returns-else-stands c = literal_open c.args.text.now c.args.start c.run_end-end.result c.run_end-end.ensures c.if-stands.ensures c.requires
+returns-else-stands c = subst (Reads c.args.text.now c.args.start _) (sym c.stray.ensures) (literal_open c.args.text.now c.args.start c.run_end-end.result c.run_end-end.ensures c.if-stands.ensures c.requires)

@@ -1,13 +1,14 @@
-use Rattle.std.proofs.Common.{sym, ◌∙◌, arith}
+use Rattle.std.proofs.Common.{◌+◌, length, ap, ◌∙◌}
+use Rattle.std.proofs.lemmas.List.{take_rest}
+use Rattle.tokens.specs.Lexed.{front}
 use Rattle.tokens.specs.Runs.{passes}
-use Rattle.tokens.proofs.Lists.{front_more, front_stops, front_past}
+use Rattle.tokens.proofs.Lists.{taken, front_past}
 use Rattle.tokens.proofs.runs.run_end.Goals as goal
 
-pub loop-end-preserved : goal.loop-end-preserved
-loop-end-preserved c = c.loop-end.invariant ∙ front_more (passes c.args.class) c.args.text.now c.loop-end.end (omega arith) (sym c.if-belongs.ensures)
+pub returns-then-from-text : goal.returns-then-from-text
+returns-then-from-text c =
+    let p = passes c.args.class in
+    ap (λ n. c.args.from + n) (c.run.ensures ∙ taken p _ ∙ ap (λ r. length (front p r)) (take_rest c.args.text.now c.args.from))
 
-pub returns-else-belongs : goal.returns-else-belongs
-returns-else-belongs c = front_stops (passes c.args.class) c.args.text.now c.loop-end.end (omega arith) (sym c.if-belongs.ensures) ∙ sym c.loop-end.invariant
-
-pub returns-after-loop-end : goal.returns-after-loop-end
-returns-after-loop-end c = front_past (passes c.args.class) c.args.text.now c.loop-end.end (omega arith) ∙ sym c.loop-end.invariant
+pub returns-else-from-text : goal.returns-else-from-text
+returns-else-from-text c = front_past (passes c.args.class) c.args.text.now c.args.from c.if-from-text.false
