@@ -5,25 +5,21 @@ ghost use Rattle.grammar.specs.Numbered.{NumbersAreFaithful};
 ghost use Rattle.grammar.specs.Walkable.{EndsDecide, FirstPartDecides};
 ghost use Rattle.grammar.specs.Reading.{OneTree, OneQuestion, OneRefusal, NotBoth, EveryText};
 
-pub fn reading_is_exact() -> u8
+pub fn reading_is_exact()
     ensures tree { OneTree }
     ensures question { OneQuestion }
     ensures refusal { OneRefusal }
     ensures apart { NotBoth }
     ensures every { EveryText }
-{
-    0
-}
+{}
 
 // A question's variables go by name or by number.
-pub fn numbers_are_faithful() -> u8
+pub fn numbers_are_faithful()
     ensures { NumbersAreFaithful }
-{
-    0
-}
+{}
 
 // Which questions are bounded does not depend on the order of sides, and can depend on their grouping. Masks decide it.
-pub fn bounds_are_lawful() -> u8
+pub fn bounds_are_lawful()
     ensures more { BoundedByMore }
     ensures exchange { ExchangeKeepsBounds }
     ensures regroup { RegroupingCanUnbind }
@@ -32,6 +28,4 @@ pub fn bounds_are_lawful() -> u8
     ensures verdict { JudgingDecides }
     ensures part { FirstPartDecides }
     ensures side { FirstSideDecides }
-{
-    0
-}
+{}

@@ -2,7 +2,7 @@
 ghost use Rattle.std.specs.Prelude.{◌≡◌};
 ghost use Rattle.grammar.specs.Reading.{number_of, offset_of};
 
-use crate::refusal::{Reason, Refusal};
+use crate::refusal::Refusal;
 
 impl Refusal {
     pub fn number(&self) -> u8
@@ -11,12 +11,7 @@ impl Refusal {
         match *self {
             Refusal::TextTooLong => 1,
             Refusal::TooManyNodes => 4,
-            Refusal::At(fault) => match fault.reason {
-                Reason::NoQuestion => 2,
-                Reason::TooDeep => 3,
-                Reason::TooManyVariables => 5,
-                Reason::TooLong => 6,
-            },
+            Refusal::At(fault) => fault.reason as u8,
         }
     }
 
@@ -24,8 +19,7 @@ impl Refusal {
         ensures { result ≡ offset_of self.now }
     {
         match *self {
-            Refusal::TextTooLong => None,
-            Refusal::TooManyNodes => None,
+            Refusal::TextTooLong | Refusal::TooManyNodes => None,
             Refusal::At(fault) => Some(fault.at),
         }
     }
