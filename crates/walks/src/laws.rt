@@ -2,37 +2,27 @@ ghost use Rattle.walks.specs.Translated.{NamesAreFree};
 ghost use Rattle.walks.specs.Promises.{WalkIsComplete, NothingElseMatters, WalksOnlyGrow, NeedsAreMet, NeedsAreListed};
 
 // What is needed suffices: over the documents that a walk needs, a bounded question has the solutions of the whole Web.
-pub fn walk_is_complete<A>() -> u8
+pub fn walk_is_complete<A>()
     ensures { WalkIsComplete A }
-{
-    0
-}
+{}
 
 // Documents that are not needed change nothing.
-pub fn nothing_else_matters<A>() -> u8
+pub fn nothing_else_matters<A>()
     ensures { NothingElseMatters A }
-{
-    0
-}
+{}
 
 // With more documents a walk needs all that it needed, and what it needs was met before.
-pub fn walks_only_grow<A>() -> u8
+pub fn walks_only_grow<A>()
     ensures grow { WalksOnlyGrow A }
     ensures met { NeedsAreMet A }
-{
-    0
-}
+{}
 
 // What is needed can be listed.
-pub fn needs_are_listed<A>() -> u8
+pub fn needs_are_listed<A>()
     ensures { NeedsAreListed A }
-{
-    0
-}
+{}
 
 // Under other names for its terms, as numbers, a question has its verdict, its rows and weights and its needs under those names.
-pub fn names_are_free<A, B>() -> u8
+pub fn names_are_free<A, B>()
     ensures { NamesAreFree A B }
-{
-    0
-}
+{}
