@@ -18,7 +18,7 @@ use Rattle.question.specs.declared.span.TermSpan.{TermSpan}
 use Rattle.question.specs.declared.reader.Reader.{Reader}
 use Rattle.question.specs.Arena.{name_of, term_of}
 use Rattle.question.specs.Views.{seen_of, view, Idle, Stands}
-use Rattle.question.specs.Outcomes.{Finds}
+use Rattle.question.proofs.Bytes.{Finds}
 use Rattle.question.specs.Admission.{term_word, Admission}
 use Rattle.question.proofs.Holding.{stands_last}
 

@@ -1,7 +1,11 @@
 -- Parts of a text, and names among others.
-use Rattle.std.proofs.Common.{◌≡◌, ℕ, ◌+◌, ◌-◌, ◌<◌, ◌≤◌, min, Bool, true, false, ◌&&◌, ◌||◌, eqb, List, [], ◌∷◌, map, length, get_or, take, drop, Decides, sym, refl, ap, ◌∙◌, inl, inr, arith, length-drop, eq-eqb, eqb-true}
+use Rattle.std.proofs.Common.{◌≡◌, ℕ, suc, ◌+◌, ◌-◌, min, Bool, true, false, cond, not, ◌&&◌, ◌||◌, eqb, ltb, List, [], ◌∷◌, map, length, get_or, take, drop, Some, None, Option, sym, refl, ap, ◌∙◌, subst, inl, inr, arith, length-drop, lt-ltb, le-ltb, ltb-true, ltb-false}
 use lib.ListN.{length-map}
-use Rattle.std.proofs.lemmas.List.{take_all, drop_all, drop_more, get_or-map}
+use Rattle.std.proofs.lemmas.List.{take_all, drop_all, get_or-map}
+use Rattle.std.proofs.lemmas.List.Sums.{passes_at_first}
+use Rattle.std.proofs.lemmas.Slice.Eq.{bytes_eq-Decides}
+use Rattle.std.specs.List.{position, position_or_len}
+use Rattle.std.specs.Str.{bytes_eq}
 use Rattle.std.proofs.str.Laws.{order}
 use Rattle.tokens.specs.Lexed.{part, same_bytes}
 use Rattle.grammar.specs.Grammar.{Name}
@@ -9,14 +13,6 @@ use Rattle.grammar.specs.Limits.{known}
 use Rattle.question.specs.declared.span.Span.{Span}
 use Rattle.question.specs.Arena.{name_of}
 use Rattle.question.specs.Views.{Stands}
-
-and_left : (p q : Bool) → p && q ≡ true → p ≡ true
-and_left true q h = refl
-and_left false q h = h
-
-and_right : (p q : Bool) → p && q ≡ true → q ≡ true
-and_right true q h = h
-and_right false q h = absurd (let z : ◌≡◌ {A = ℕ} 0 1 = cc in omega arith)
 
 -- a part beyond the text's end is as long as the text goes
 pub part_within : (text : List ℕ) (s e m n : ℕ) → m ≡ min e (length text) → n ≡ min s m → take (m - n) (drop n text) ≡ part text s e
@@ -34,56 +30,49 @@ part_within text s e m n hm hn =
           ap (λ k. take k (drop n text)) x ∙ sym (ap (take (e - s)) (drop_all s text h) ∙ take_all (e - s) [] (omega arith)))
     ]
 
-pub same_bytes_is : (xs ys : List ℕ) → same_bytes xs ys ≡ true → xs ≡ ys
-same_bytes_is [] [] h = refl
-same_bytes_is [] (y ∷ ys) h = absurd (let z : ◌≡◌ {A = ℕ} 0 1 = cc in omega arith)
-same_bytes_is (x ∷ xs) [] h = absurd (let z : ◌≡◌ {A = ℕ} 0 1 = cc in omega arith)
-same_bytes_is (x ∷ xs) (y ∷ ys) h =
-    let e = eqb-true x y (and_left (eqb x y) (same_bytes xs ys) h) in
-    let f = same_bytes_is xs ys (and_right (eqb x y) (same_bytes xs ys) h) in
-    λ i. e i ∷ f i
+-- the definitions' test of two names is the library's
+same_as : (xs ys : List ℕ) → same_bytes xs ys ≡ bytes_eq xs ys
+same_as [] [] = refl
+same_as [] (y ∷ ys) = refl
+same_as (x ∷ xs) [] = refl
+same_as (x ∷ xs) (y ∷ ys) = ap (λ b. eqb x y && b) (same_as xs ys)
 
-pub same_bytes_refl : (xs : List ℕ) → same_bytes xs xs ≡ true
-same_bytes_refl [] = refl
-same_bytes_refl (x ∷ xs) = ap (λ b. b && same_bytes xs xs) (eq-eqb x x refl) ∙ same_bytes_refl xs
+-- ---- a name among others
 
-pub same_bytes_decided : (xs ys : List ℕ) (r : Bool) → Decides r (xs ≡ ys) → r ≡ same_bytes xs ys
-same_bytes_decided xs ys true d = sym (ap (same_bytes xs) (sym (d.0 refl)) ∙ same_bytes_refl xs)
-same_bytes_decided xs ys false d = go (same_bytes xs ys) refl
-  where
-    go : (b : Bool) → same_bytes xs ys ≡ b → false ≡ same_bytes xs ys
-    go true e = d.1 (same_bytes_is xs ys e) ∙ sym e
-    go false e = sym e
+-- the place of a name
+abbrev pub Finds : Name → List Name → Option ℕ → Type 0
+Finds x ys None = known x ys ≡ false
+Finds x ys (Some i) = (known x ys ≡ true) × Stands ys i x
 
--- ---- a name among others, from an index on
+module _ (x : Name) (text : List ℕ) where
+  abbrev is_it : Span → Bool
+  is_it s = bytes_eq x (name_of text s)
 
-module _ (x : Name) (text : List ℕ) (ss : List Span) where
-  abbrev names : List Span → List Name
-  names l = map (name_of text) l
+  or_later : (b k : Bool) (n m : ℕ) → k ≡ ltb n m → b || k ≡ ltb (cond (not b) (1 + n) 0) (suc m)
+  or_later true k n m e = sym (lt-ltb 0 (suc m) (omega arith))
+  or_later false true n m e = let h = ltb-true n m (sym e) in sym (lt-ltb (1 + n) (suc m) (omega arith))
+  or_later false false n m e = let h = ltb-false n m (sym e) in sym (le-ltb (1 + n) (suc m) (omega arith))
 
-  pub not_here : (i : ℕ) (d : Span) → i < length ss → same_bytes x (name_of text (get_or ss i d)) ≡ false → known x (map (name_of text) (drop i ss)) ≡ known x (map (name_of text) (drop (i + 1) ss))
-  not_here i d h n = ap (λ l. known x (map (name_of text) l)) (drop_more ss i d h) ∙ ap (λ b. b || known x (map (name_of text) (drop (i + 1) ss))) n
+  known_at : (ss : List Span) → known x (map (name_of text) ss) ≡ ltb (position_or_len is_it ss) (length ss)
+  known_at [] = refl
+  known_at (s ∷ ss) =
+      ap (λ b. b || known x (map (name_of text) ss)) (same_as x (name_of text s)) ∙ or_later (is_it s) (known x (map (name_of text) ss)) (position_or_len is_it ss) (length ss) (known_at ss)
 
-  pub here : (i : ℕ) (d : Span) → i < length ss → same_bytes x (name_of text (get_or ss i d)) ≡ true → known x (map (name_of text) (drop i ss)) ≡ true
-  here i d h n = ap (λ l. known x (map (name_of text) l)) (drop_more ss i d h) ∙ ap (λ b. b || known x (map (name_of text) (drop (i + 1) ss))) n
+  finds : (ss : List Span) → Finds x (map (name_of text) ss) (position (λ s. bytes_eq x (name_of text s)) ss)
+  finds ss = go (ltb (position_or_len is_it ss) (length ss)) refl
+    where
+      go : (b : Bool) → ltb (position_or_len is_it ss) (length ss) ≡ b → Finds x (map (name_of text) ss) (cond b (Some (position_or_len is_it ss)) None)
+      go false e = known_at ss ∙ e
+      go true e =
+          let i = position_or_len is_it ss in
+          let d : Span = record { start = 0; end = 0 } in
+          let h = ltb-true i (length ss) e in (
+            known_at ss ∙ e,
+            record {
+              within = omega (arith, length-map ss (name_of text));
+              is = λ o. get_or-map (name_of text) ss i d o h ∙ sym ((bytes_eq-Decides x (name_of text (get_or ss i d))).0 (passes_at_first is_it ss d h));
+            },
+          )
 
-  pub stands_there : (i : ℕ) (d : Span) → i < length ss → same_bytes x (name_of text (get_or ss i d)) ≡ true → Stands (map (name_of text) ss) i x
-  stands_there i d h n = record {
-    within = omega (arith, length-map ss (name_of text));
-    is = λ o. get_or-map (name_of text) ss i d o h ∙ sym (same_bytes_is x (name_of text (get_or ss i d)) n);
-  }
-
-  pub nowhere : (i : ℕ) → length ss ≤ i → known x (map (name_of text) (drop i ss)) ≡ false
-  nowhere i h = ap (λ l. known x (map (name_of text) l)) (drop_all i ss h)
-
--- the code's test of two parts is the test of two names
-pub tested : {b : Bool} {u v : List ℕ} (x y : List ℕ) → b ≡ same_bytes u v → u ≡ x → v ≡ y → same_bytes x y ≡ b
-tested x y h e f = sym (h ∙ (λ i. same_bytes (e i) (f i)))
-
--- ---- what a list of parts tells
-
-pub told : {S X : Type 0} (f : S → X) (ss : List S) (i : ℕ) (s : S) (x : X) → i < length ss → s ≡ get_or ss i s → x ≡ f s → (y : X) × (x ≡ y) × Stands (map f ss) i y
-told f ss i s x h is e = (x, refl, record { within = omega (arith, length-map ss f); is = λ d. get_or-map f ss i s d h ∙ ap f (sym is) ∙ sym e })
-
-pub untold : {S X : Type 0} (f : S → X) (ss : List S) (i : ℕ) → length ss ≤ i → length (map f ss) ≤ i
-untold f ss i h = omega (arith, length-map ss f)
+  pub found : (ss : List Span) (r : Option ℕ) → r ≡ position (λ s. bytes_eq x (name_of text s)) ss → Finds x (map (name_of text) ss) r
+  found ss r e = subst (Finds x (map (name_of text) ss)) (sym e) (finds ss)

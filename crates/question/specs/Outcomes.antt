@@ -1,12 +1,12 @@
 -- What each function of the reader answers: a tree of its kind was read, or it could not be.
-use Rattle.std.specs.Prelude.{◌≡◌, ℕ, ◌<◌, ◌≤◌, Bool, true, false, ◌||◌, List, [], ◌∷◌, ◌++◌, length, Some, None, Option, Result, MatchResult}
+use Rattle.std.specs.Prelude.{◌≡◌, ℕ, ◌<◌, ◌≤◌, Bool, false, ◌||◌, [], ◌∷◌, ◌++◌, length, Some, None, Option, Result, MatchResult}
 use Rattle.tokens.specs.declared.token.Token.{Token}
 use Rattle.tokens.specs.declared.token.Token.TheVariants as token
 use Rattle.tokens.specs.Words.{Word, sort, same, iri, literal, name, open_brace, close_brace, open_paren, close_paren, dot, bar, slash, caret, star, bang, optional, union, wrong, end}
 use Rattle.grammar.specs.declared.refusal.Fault.{Fault}
 use Rattle.grammar.specs.Syntax.{path_nodes, nodes}
-use Rattle.grammar.specs.Grammar.{Kind, is_suffix, is_members, is_end, is_item, is_items, Tree, spell, means, Name, Paths, Patterns, iri_term, literal_term}
-use Rattle.grammar.specs.Limits.{Seen, after, known}
+use Rattle.grammar.specs.Grammar.{Kind, is_suffix, is_members, is_end, is_item, is_items, Tree, spell, means, Paths, Patterns, iri_term, literal_term}
+use Rattle.grammar.specs.Limits.{Seen, after}
 use Rattle.grammar.specs.Reading.{words}
 use Rattle.grammar.specs.Machine.{Symbol, the, a}
 use Rattle.question.specs.declared.node.End.{End}
@@ -39,11 +39,6 @@ Numbered s optional n = Unit {0}
 Numbered s union n = Unit {0}
 Numbered s wrong n = Unit {0}
 Numbered s end n = Unit {0}
-
--- the place of a name among others
-abbrev pub Finds : Name → List Name → Option ℕ → Type 0
-Finds x ys None = known x ys ≡ false
-Finds x ys (Some i) = (known x ys ≡ true) × Stands ys i x
 
 -- a word of one sort was passed
 pub record Took (t : Token) (from to : View) (n : ℕ) : Type 0 where

@@ -24,10 +24,8 @@ impl Reader {
             Token::Iri => self.admit_term(text, Kind::Iri),
             Token::Literal => self.admit_term(text, Kind::Literal),
             Token::Variable => self.admit_name(text),
-            Token::OpenBrace => self.open_bracket(),
-            Token::OpenParen => self.open_bracket(),
-            Token::CloseBrace => Ok(self.close_bracket()),
-            Token::CloseParen => Ok(self.close_bracket()),
+            Token::OpenBrace | Token::OpenParen => self.open_bracket(),
+            Token::CloseBrace | Token::CloseParen => Ok(self.close_bracket()),
             _ => Ok(0),
         }
     }

@@ -49,23 +49,16 @@ impl Question {
     pub fn name(&self, number: usize) -> Option<&[u8]>
         ensures { Told (λ x y. x.now ≡ y) (asked self.now).names number result }
     {
-        if number < self.variables() {
-            Some(self.names[number].of(self.text.as_slice()))
-        } else {
-            None
-        }
+        let name = self.names.get(number)?;
+        Some(name.of(self.text.as_slice()))
     }
 
     // A term's kind and bytes, by its number.
     pub fn term(&self, number: usize) -> Option<(Kind, &[u8])>
         ensures { Told (λ x y. term_told x.0 x.1.now ≡ y) (asked self.now).terms number result }
     {
-        if number < self.terms.len() {
-            let term = self.terms[number];
-            Some((term.kind, term.span.of(self.text.as_slice())))
-        } else {
-            None
-        }
+        let term = self.terms.get(number)?;
+        Some((term.kind, term.span.of(self.text.as_slice())))
     }
 
     pub fn path(&self, index: usize) -> Option<PathNode>

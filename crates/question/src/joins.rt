@@ -13,14 +13,10 @@ impl Reader {
     pub(crate) fn at_item(&self) -> bool
         ensures { result ≡ begins_item self.now.next.token }
     {
-        match self.next.token {
-            Token::Iri => true,
-            Token::Literal => true,
-            Token::Variable => true,
-            Token::Optional => true,
-            Token::OpenBrace => true,
-            _ => false,
-        }
+        matches!(
+            self.next.token,
+            Token::Iri | Token::Literal | Token::Variable | Token::Optional | Token::OpenBrace
+        )
     }
 
     // Nothing is the empty pattern.
