@@ -1,5 +1,5 @@
 // One token at a time, straight from the bytes of the text.
-ghost use Rattle.std.specs.Prelude.{◌≡◌, ◌+◌, ◌^◌, ◌<◌, true, length, drop, slice_index};
+ghost use Rattle.std.specs.Prelude.{◌≡◌, ◌+◌, ◌<◌, true, length, drop, slice_index};
 ghost use Rattle.terms.specs.Bytes.{word_byte};
 ghost use Rattle.tokens.specs.Words.{sort};
 ghost use Rattle.tokens.specs.Lexed.{First, leads, iri_piece, literal_piece, name_piece, word_piece, lexeme, signs, keyword as keyword_of};
@@ -17,69 +17,6 @@ fn stands(text: &[u8], at: usize, b: u8) -> bool
     at < text.len() && text[at] == b
 }
 
-// A byte that begins no token.
-fn stray(start: usize) -> Lexeme
-    requires { start + 1 < 2 ^ 64 }
-    ensures { result ≡ record { token = Wrong; start = start; end = start + 1 } }
-{
-    Lexeme {
-        token: Token::Wrong,
-        start,
-        end: start + 1,
-    }
-}
-
-// The IRI whose `<` stands at `start`. No IRI is empty.
-fn iri(text: &[u8], start: usize) -> Lexeme
-    requires { start < length text.now }
-    ensures { Reads text.now start (iri_piece (drop (start + 1) text.now)) result }
-{
-    let end = run_end(text, start + 1, Class::Iri);
-    if end > start + 1 && stands(text, end, b'>') {
-        Lexeme {
-            token: Token::Iri,
-            start,
-            end: end + 1,
-        }
-    } else {
-        stray(start)
-    }
-}
-
-// The literal whose first quote stands at `start`.
-fn literal(text: &[u8], start: usize) -> Lexeme
-    requires { start < length text.now }
-    ensures { Reads text.now start (literal_piece (drop (start + 1) text.now)) result }
-{
-    let end = run_end(text, start + 1, Class::Literal);
-    if stands(text, end, b'"') {
-        Lexeme {
-            token: Token::Literal,
-            start,
-            end: end + 1,
-        }
-    } else {
-        stray(start)
-    }
-}
-
-// The variable whose `?` stands at `start`.
-fn variable(text: &[u8], start: usize) -> Lexeme
-    requires { start < length text.now }
-    ensures { Reads text.now start (name_piece (drop (start + 1) text.now)) result }
-{
-    let end = run_end(text, start + 1, Class::Word);
-    if end > start + 1 {
-        Lexeme {
-            token: Token::Variable,
-            start,
-            end,
-        }
-    } else {
-        stray(start)
-    }
-}
-
 fn keyword(word: &[u8]) -> Token
     ensures { result ≡ sort (keyword_of word.now) }
 {
@@ -89,20 +26,6 @@ fn keyword(word: &[u8]) -> Token
         Token::Union
     } else {
         Token::Wrong
-    }
-}
-
-// The word that begins at `start`, a keyword if it is one whole.
-fn word(text: &[u8], start: usize) -> Lexeme
-    requires start_in_bounds { start < length text.now }
-    requires start_value { word_byte (slice_index text.now start) ≡ true }
-    ensures { Reads text.now start (word_piece (drop start text.now)) result }
-{
-    let end = run_end(text, start, Class::Word);
-    Lexeme {
-        token: keyword(&text[start..end]),
-        start,
-        end,
     }
 }
 
@@ -125,21 +48,102 @@ fn sign(b: u8) -> Token
     }
 }
 
-// The token that begins at `start`, where no blank stands.
-fn token_at(text: &[u8], start: usize) -> Lexeme
-    requires { start < length text.now }
-    ensures { Reads text.now start (lexeme (slice_index text.now start) (drop (start + 1) text.now)) result }
-{
-    match text[start] {
-        b'<' => iri(text, start),
-        b'"' => literal(text, start),
-        b'?' => variable(text, start),
-        b if is_word_byte(b) => word(text, start),
-        b => Lexeme {
-            token: sign(b),
-            start,
-            end: start + 1,
-        },
+// A place in a text where a byte stands.
+#[derive(Clone, Copy)]
+struct Place<'a> {
+    text: &'a [u8],
+    start: usize,
+    ghost inside: { start < length text.now },
+}
+
+impl<'a> Place<'a> {
+    // A byte that begins no token.
+    fn stray(self) -> Lexeme
+        ensures { result ≡ record { token = Wrong; start = self.entry.start; end = self.entry.start + 1 } }
+    {
+        Lexeme {
+            token: Token::Wrong,
+            start: self.start,
+            end: self.start + 1,
+        }
+    }
+
+    // The IRI whose `<` stands here. No IRI is empty, while a literal may be: so each has its function.
+    fn iri(self) -> Lexeme
+        ensures { Reads self.entry.text.now self.entry.start (iri_piece (drop (self.entry.start + 1) self.entry.text.now)) result }
+    {
+        let end = run_end(self.text, self.start + 1, Class::Iri);
+        if end > self.start + 1 && stands(self.text, end, b'>') {
+            Lexeme {
+                token: Token::Iri,
+                start: self.start,
+                end: end + 1,
+            }
+        } else {
+            self.stray()
+        }
+    }
+
+    // The literal whose first quote stands here.
+    fn literal(self) -> Lexeme
+        ensures { Reads self.entry.text.now self.entry.start (literal_piece (drop (self.entry.start + 1) self.entry.text.now)) result }
+    {
+        let end = run_end(self.text, self.start + 1, Class::Literal);
+        if stands(self.text, end, b'"') {
+            Lexeme {
+                token: Token::Literal,
+                start: self.start,
+                end: end + 1,
+            }
+        } else {
+            self.stray()
+        }
+    }
+
+    // The variable whose `?` stands here.
+    fn variable(self) -> Lexeme
+        ensures { Reads self.entry.text.now self.entry.start (name_piece (drop (self.entry.start + 1) self.entry.text.now)) result }
+    {
+        let end = run_end(self.text, self.start + 1, Class::Word);
+        if end > self.start + 1 {
+            Lexeme {
+                token: Token::Variable,
+                start: self.start,
+                end,
+            }
+        } else {
+            self.stray()
+        }
+    }
+
+    // The word that begins here, a keyword if it is one whole.
+    fn word(self) -> Lexeme
+        requires { word_byte (slice_index self.text.now self.start) ≡ true }
+        ensures { Reads self.entry.text.now self.entry.start (word_piece (drop self.entry.start self.entry.text.now)) result }
+    {
+        let end = run_end(self.text, self.start, Class::Word);
+        Lexeme {
+            token: keyword(&self.text[self.start..end]),
+            start: self.start,
+            end,
+        }
+    }
+
+    // The token that begins here, where no blank stands.
+    fn token(self) -> Lexeme
+        ensures { Reads self.entry.text.now self.entry.start (lexeme (slice_index self.entry.text.now self.entry.start) (drop (self.entry.start + 1) self.entry.text.now)) result }
+    {
+        match self.text[self.start] {
+            b'<' => self.iri(),
+            b'"' => self.literal(),
+            b'?' => self.variable(),
+            b if is_word_byte(b) => self.word(),
+            b => Lexeme {
+                token: sign(b),
+                start: self.start,
+                end: self.start + 1,
+            },
+        }
     }
 }
 
@@ -149,7 +153,7 @@ pub fn next(text: &[u8], at: usize) -> Lexeme
 {
     let start = run_end(text, at, Class::Blank);
     if start < text.len() {
-        token_at(text, start)
+        Place { text, start }.token()
     } else {
         Lexeme {
             token: Token::End,
