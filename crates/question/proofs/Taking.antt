@@ -18,6 +18,9 @@ use Rattle.question.specs.Admission.{Admitted, Over}
 use Rattle.question.proofs.Counts.{clash}
 use Rattle.question.proofs.Going.{kept_idle}
 
+pub alike : (s t : Token) → s ≡ t → same s t ≡ true
+alike s t e = ap (λ u. same u t) e ∙ same_refl t
+
 pub sort_saying : (t : Token) (y : List ℕ) → sort (saying t y) ≡ t
 sort_saying Iri y = refl
 sort_saying Literal y = refl

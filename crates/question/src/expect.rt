@@ -18,7 +18,7 @@ impl Reader {
         ensures outcome { Takes token (view text.now self.old) (view text.now self.new) result }
     {
         let at = self.next.start;
-        if !self.next.token.is(token) {
+        if self.next.token != token {
             return Err(Fault {
                 reason: Reason::NoQuestion,
                 at,

@@ -62,7 +62,7 @@ impl Reader {
             Ok(i) => i,
             Err(fault) => return Err(Refusal::At(fault)),
         };
-        if !self.next.token.is(Token::End) {
+        if self.next.token != Token::End {
             return Err(Refusal::At(Fault {
                 reason: Reason::NoQuestion,
                 at: self.next.start,

@@ -1,7 +1,6 @@
 // Tokens of a question, cut from its bytes one at a time.
 #![tactic(auto)]
 
-mod compare;
 mod laws;
 mod lexer;
 mod runs;
