@@ -17,13 +17,13 @@ use Rattle.question.specs.declared.node.End.TheVariants as end
 use Rattle.question.specs.declared.node.PatternNode.{PatternNode}
 use Rattle.question.specs.declared.node.PatternNode.TheVariants as pattern
 use Rattle.question.specs.Arena.{name_of, path_of, paths_of, pattern_of, patterns_of}
-use Rattle.question.specs.Nodes.{env_of_names}
+use Rattle.question.specs.Nodes.{env_of_names, meant_end}
 use Rattle.question.specs.Asking.{asked}
 use Rattle.question.specs.Answers.{Told}
 use Rattle.question.specs.Behind.{path_from, pattern_from, pattern_names, end_names}
 use Rattle.question.specs.Parts.{env_of, end_at, path_is}
 use Rattle.question.proofs.Standing.{path_is_lem, path_behind, pattern_is_lem, pattern_behind, no_pattern}
-use Rattle.judging.specs.Masked.{asks_at, line_at, mask_of, fixed_by, Judges}
+use Rattle.judging.specs.Masked.{asks_at, line_at, Judges}
 
 abbrev pub PathThere : Question → ℕ → PathNode → Type 0
 PathThere q i n = Told (λ (x y : PathNode). x ≡ y) (vec_items q.paths) i (Some n)
@@ -63,13 +63,17 @@ second_fails p q m s r h f e = subst (Judges (and p q) m) (sym e) (first_side_de
 
 -- ---- ends
 
-pub mask_as : (q : Question) (a : End) → distinct (asked q).names ≡ true → end_names a ≤ length (asked q).names → mask_of a ≡ end_mask (numbered_end (asked q).names (end_at q a))
-mask_as q (end.Term t) d le = refl
-mask_as q (end.Variable v) d le = ap (λ n. 2 ^ n) (sym (place_at (asked q).names v d (omega arith)))
+pub mask_as : (term : ℕ → ℕ) (q : Question) (a : End) → distinct (asked q).names ≡ true → end_names a ≤ length (asked q).names → end_mask (meant_end term (λ v. v) a) ≡ end_mask (numbered_end (asked q).names (end_at q a))
+mask_as term q (end.Term t) d le = refl
+mask_as term q (end.Variable v) d le = ap (λ n. 2 ^ n) (sym (place_at (asked q).names v d (omega arith)))
 
-pub fixed_as : (q : Question) (a : End) (m : ℕ) → distinct (asked q).names ≡ true → end_names a ≤ length (asked q).names → fixed_by m a ≡ fixed (member m) (numbered_end (asked q).names (end_at q a))
-fixed_as q (end.Term t) m d le = refl
-fixed_as q (end.Variable v) m d le = ap (member m) (sym (place_at (asked q).names v d (omega arith)))
+pub fixed_as : (term : ℕ → ℕ) (q : Question) (a : End) (m : ℕ) → distinct (asked q).names ≡ true → end_names a ≤ length (asked q).names → fixed (member m) (meant_end term (λ v. v) a) ≡ fixed (member m) (numbered_end (asked q).names (end_at q a))
+fixed_as term q (end.Term t) m d le = refl
+fixed_as term q (end.Variable v) m d le = ap (member m) (sym (place_at (asked q).names v d (omega arith)))
 
-pub line_walks : (q : Question) (a b : End) (p m : ℕ) (l r : Bool) → distinct (asked q).names ≡ true → end_names a ≤ length (asked q).names → end_names b ≤ length (asked q).names → l ≡ fixed_by m a → r ≡ fixed_by m b → walkable (path_is q p) l r ≡ judged (line_at q a p b) m
-line_walks q a b p m l r d le lf el er = ap₂ (walkable (path_is q p)) (el ∙ fixed_as q a m d le) (er ∙ fixed_as q b m d lf)
+-- a test of an end by number is one by name
+abbrev Tests : ℕ → End → Bool → Type 0
+Tests m a b = (term : ℕ → ℕ) → b ≡ fixed (member m) (meant_end term (λ v. v) a)
+
+pub line_walks : (q : Question) (a b : End) (p m : ℕ) (l r : Bool) → distinct (asked q).names ≡ true → end_names a ≤ length (asked q).names → end_names b ≤ length (asked q).names → Tests m a l → Tests m b r → walkable (path_is q p) l r ≡ judged (line_at q a p b) m
+line_walks q a b p m l r d le lf el er = ap₂ (walkable (path_is q p)) (el (λ i. i) ∙ fixed_as (λ i. i) q a m d le) (er (λ i. i) ∙ fixed_as (λ i. i) q b m d lf)

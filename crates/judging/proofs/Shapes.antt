@@ -1,27 +1,22 @@
 -- Verdicts do not depend on what terms stand for.
-use Rattle.std.proofs.Common.{◌≡◌, ℕ, zero, suc, ◌^◌, ◌<◌, ◌≤◌, Bool, true, false, ◌&&◌, ◌||◌, eqb, ltb, List, length, get_or, Some, None, vec_items, Option, sym, refl, ap, ◌∙◌, ap₂, arith, ltb-false, ltb-true}
+use Rattle.std.proofs.Common.{◌≡◌, ℕ, zero, suc, ◌<◌, ◌≤◌, Bool, true, false, ◌&&◌, ◌||◌, eqb, ltb, List, length, get_or, Some, None, vec_items, Option, sym, refl, ap, ◌∙◌, ap₂, arith, ltb-false, ltb-true}
 use lib.Bits.{bit_or, bit_and}
 use Rattle.std.proofs.lemmas.List.{get_or_default}
-use Rattle.grammar.specs.Bounded.{fixed}
-use Rattle.grammar.specs.Judged.{end_mask, sure_mask, judged}
-use Rattle.grammar.specs.Masks.{member}
-use Rattle.grammar.specs.Numbered.{numbered, numbered_end, distinct}
+use Rattle.grammar.specs.Judged.{sure_mask, judged}
+use Rattle.grammar.specs.Numbered.{numbered, distinct}
 use Rattle.grammar.specs.Walkable.{walkable}
 use Rattle.question.specs.declared.question.Question.{Question}
 use Rattle.question.specs.declared.node.PathNode.{PathNode}
 use Rattle.question.specs.declared.node.PathNode.TheVariants as path
-use Rattle.question.specs.declared.node.End.{End}
-use Rattle.question.specs.declared.node.End.TheVariants as end
 use Rattle.question.specs.declared.node.PatternNode.{PatternNode}
 use Rattle.question.specs.declared.node.PatternNode.TheVariants as pattern
-use Rattle.question.specs.Nodes.{meant_path_at, meant_paths, meant_path, meant_patterns, meant_pattern, meant_end, env_of_names}
+use Rattle.question.specs.Nodes.{meant_path_at, meant_paths, meant_path, meant_patterns, meant_pattern, env_of_names}
 use Rattle.question.specs.Asking.{asked}
-use Rattle.question.specs.Behind.{path_from, pattern_from, pattern_names, end_names}
-use Rattle.question.specs.Parts.{env_of, end_at}
+use Rattle.question.specs.Behind.{path_from, pattern_from, pattern_names}
+use Rattle.question.specs.Parts.{env_of}
 use Rattle.question.proofs.Standing.{path_is_lem, path_behind, no_path, pattern_is_lem, pattern_behind, no_pattern}
-use Rattle.grammar.proofs.Numbering.{place_at}
 use Rattle.judging.specs.Masked.{by_number, asks_by, asks_at, Judges}
-use Rattle.judging.proofs.Placed.{PathThere, PatternThere, ends_there}
+use Rattle.judging.proofs.Placed.{PathThere, PatternThere, ends_there, mask_as, fixed_as}
 
 -- ---- paths
 
@@ -62,14 +57,6 @@ same_walk f g q i = below_path f g q (suc i) i (omega arith)
 abbrev SamePattern : List ℕ → Question → ℕ → Type 0
 SamePattern numbers q i = ((m : ℕ) → judged (asks_by numbers q i) m ≡ judged (asks_at q i) m) × (sure_mask (asks_by numbers q i) ≡ sure_mask (asks_at q i))
 
-same_fixed : (f : ℕ → ℕ) (q : Question) (m : ℕ) (a : End) → distinct (asked q).names ≡ true → end_names a ≤ length (asked q).names → fixed (member m) (meant_end f (λ v. v) a) ≡ fixed (member m) (numbered_end (asked q).names (end_at q a))
-same_fixed f q m (end.Term t) d le = refl
-same_fixed f q m (end.Variable v) d le = ap (member m) (sym (place_at (asked q).names v d (omega arith)))
-
-same_mask : (f : ℕ → ℕ) (q : Question) (a : End) → distinct (asked q).names ≡ true → end_names a ≤ length (asked q).names → end_mask (meant_end f (λ v. v) a) ≡ end_mask (numbered_end (asked q).names (end_at q a))
-same_mask f q (end.Term t) d le = refl
-same_mask f q (end.Variable v) d le = ap (λ n. 2 ^ n) (sym (place_at (asked q).names v d (omega arith)))
-
 -- what a node's verdict says of numbers and of names
 record SameNode (numbers : List ℕ) (q : Question) (n : PatternNode) : Type 0 where
   verdict : (m : ℕ) → judged (meant_pattern (by_number numbers q) (meant_patterns (by_number numbers q) (vec_items q.patterns)) n) m ≡ judged (numbered (asked q).names (meant_pattern (env_of_names (env_of q)) (meant_patterns (env_of_names (env_of q)) (vec_items q.patterns)) n)) m
@@ -80,8 +67,8 @@ same_pattern_node numbers q i pattern.Empty d le names h = record { verdict = λ
 same_pattern_node numbers q i (pattern.Line a p b) d le names h =
     let f = (by_number numbers q).term in
     record {
-      verdict = λ m. ap₂ (walkable ((by_number numbers q).path p)) (same_fixed f q m a d (omega arith)) (same_fixed f q m b d (omega arith)) ∙ same_walk f (env_of q).term q p _ _;
-      mask = ap₂ bit_or (same_mask f q a d (omega arith)) (same_mask f q b d (omega arith));
+      verdict = λ m. ap₂ (walkable ((by_number numbers q).path p)) (fixed_as f q a m d (omega arith)) (fixed_as f q b m d (omega arith)) ∙ same_walk f (env_of q).term q p _ _;
+      mask = ap₂ bit_or (mask_as f q a d (omega arith)) (mask_as f q b d (omega arith));
     }
 same_pattern_node numbers q i (pattern.And p r) d le names h =
     let x = h p (omega arith) in

@@ -1,13 +1,11 @@
 -- What the inner functions of judging promise: masks of variables, and verdicts on the nodes of a question.
-use Rattle.std.specs.Prelude.{◌≡◌, ℕ, ◌^◌, Bool, true, false, List, Some, None, vec_items, Option, slice_index_or}
+use Rattle.std.specs.Prelude.{◌≡◌, ℕ, true, false, List, Some, None, vec_items, Option, slice_index_or}
 use Rattle.grammar.specs.Syntax.{Path, Pattern, line}
 use Rattle.grammar.specs.Bounded.{Asks}
 use Rattle.grammar.specs.Judged.{judged, sure_mask}
-use Rattle.grammar.specs.Masks.{member}
 use Rattle.grammar.specs.Numbered.{numbered, numbered_end}
 use Rattle.question.specs.declared.question.Question.{Question}
 use Rattle.question.specs.declared.node.End.{End}
-use Rattle.question.specs.declared.node.End.TheVariants as end
 use Rattle.question.specs.Nodes.{EnvOf, meant_path_at, meant_paths, meant_pattern_at, meant_patterns}
 use Rattle.question.specs.Asking.{asked}
 use Rattle.question.specs.Parts.{end_at, path_is, pattern_is}
@@ -30,14 +28,6 @@ asks_by numbers q i = meant_pattern_at (meant_patterns (by_number numbers q) (ve
 
 abbrev pub line_at : Question → End → ℕ → End → Asks
 line_at q a p b = line (numbered_end (asked q).names (end_at q a)) (path_is q p) (numbered_end (asked q).names (end_at q b))
-
-abbrev pub mask_of : End → ℕ
-mask_of (end.Term t) = 0
-mask_of (end.Variable v) = 2 ^ v
-
-abbrev pub fixed_by : ℕ → End → Bool
-fixed_by m (end.Term t) = true
-fixed_by m (end.Variable v) = member m v
 
 -- the mask of a pattern's sure variables, where it is bounded by a mask
 abbrev pub Judges : {T : Type 0} → Pattern T ℕ → ℕ → Option ℕ → Type 0

@@ -28,13 +28,9 @@ impl Judged {
         ensures { Answer (held draft.now) (accepted self.old) result (accepted self.new) }
     {
         let q = draft.question();
-        match judge(q, q.root(), 0) {
-            Some(sure) => {
-                self.question.copy(q);
-                Ok(count(sure))
-            }
-            None => Err(NotBounded),
-        }
+        let sure = judge(q, q.root(), 0).ok_or(NotBounded)?;
+        self.question.copy(q);
+        Ok(count(sure))
     }
 
     pub fn question(&self) -> &Question

@@ -9,4 +9,5 @@ mod patterns;
 mod refusal;
 
 pub use judged::Judged;
+pub use masks::{is_fixed, mask_of};
 pub use refusal::NotBounded;

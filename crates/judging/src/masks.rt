@@ -1,16 +1,18 @@
 // Sets of variables as masks of eight bits, and the ends of lines.
-ghost use Rattle.std.specs.Prelude.{◌≡◌, ◌≤◌};
+ghost use Rattle.std.specs.Prelude.{◌≡◌, ℕ, ◌≤◌};
+ghost use Rattle.grammar.specs.Bounded.{fixed as known};
+ghost use Rattle.grammar.specs.Judged.{end_mask};
 ghost use Rattle.grammar.specs.Masks.{member};
 ghost use Rattle.question.specs.Behind.{end_names};
+ghost use Rattle.question.specs.Nodes.{meant_end};
 ghost use Rattle.judging.specs.Judging.{how_many};
-ghost use Rattle.judging.specs.Masked.{mask_of, fixed_by};
 
 use question::End;
 
-// The variable of an end.
-pub(crate) fn mask_of(end: End) -> u8
+// The variable of an end, whatever its term stands for.
+pub fn mask_of(end: End) -> u8
     requires { end_names end ≤ 8 }
-    ensures { result ≡ mask_of end }
+    ensures { (term : ℕ → ℕ) → result ≡ end_mask (meant_end term (λ v. v) end) }
 {
     match end {
         End::Term(_) => 0,
@@ -18,10 +20,10 @@ pub(crate) fn mask_of(end: End) -> u8
     }
 }
 
-// Whether the term at an end is known.
-pub(crate) fn is_fixed(end: End, fixed: u8) -> bool
+// Whether the term at an end is known, whatever it stands for.
+pub fn is_fixed(end: End, fixed: u8) -> bool
     requires { end_names end ≤ 8 }
-    ensures { result ≡ fixed_by fixed end }
+    ensures { (term : ℕ → ℕ) → result ≡ known (member fixed) (meant_end term (λ v. v) end) }
 {
     match end {
         End::Term(_) => true,
