@@ -57,17 +57,10 @@ const ORDERED: [[u16; 8]; 5] = [
 
 #[test]
 fn ordered(rt: HostRuntime) {
-    for left in 0..ORDERED.len() {
-        for right in 0..ORDERED.len() {
-            let in_order = ascending(
-                Row {
-                    places: ORDERED[left],
-                },
-                Row {
-                    places: ORDERED[right],
-                },
-            );
-            assert!(rt; in_order == (left <= right));
+    for (at, left) in ORDERED.iter().enumerate() {
+        for (behind, right) in ORDERED.iter().enumerate() {
+            let in_order = ascending(Row { places: *left }, Row { places: *right });
+            assert!(rt; in_order == (at <= behind));
         }
     }
 }
