@@ -1,6 +1,6 @@
 -- What a read tells of a page that is found.
 use Rattle.std.proofs.Common.{◌≡◌, ℕ, zero, suc, ◌≤◌, List, [], ◌∷◌, length, None, refl, ap, ◌∙◌, arith}
-use Rattle.web.specs.Meaning.{Triple, Looked, listed, part_of, cell}
+use Rattle.web.specs.Meaning.{Triple, Looked, triples, listed}
 use Rattle.pages.specs.declared.cause.PageCause.{PageCause}
 use Rattle.pages.specs.Steps.{Holds}
 
@@ -10,5 +10,5 @@ listed_past zero (t ∷ ts) h = absurd (omega arith)
 listed_past (suc place) (t ∷ ts) h = listed_past place ts (omega arith)
 
 -- there is no triple at the place
-pub cell_past : (l : Looked PageCause) (place part count : ℕ) (kept : List ℕ) → Holds l place count kept → count ≤ place → cell l place part ≡ None
-cell_past l place part count kept h p = ap (λ k. cell k place part) h.found_so ∙ ap (part_of part) (listed_past place h.list (omega (arith, h.counted)))
+pub none_past : (l : Looked PageCause) (place count : ℕ) (kept : List ℕ) → Holds l place count kept → count ≤ place → listed place (triples l) ≡ None
+none_past l place count kept h p = ap (λ k. listed place (triples k)) h.found_so ∙ listed_past place h.list (omega (arith, h.counted))

@@ -1,10 +1,10 @@
-// Why a page cannot be read.
+// Why a page cannot be read, by code.
 #[derive(Clone, Copy)]
 pub enum Fault {
     // A line on the page that is neither empty, nor an opening, nor a triple.
-    Unreadable,
+    Unreadable = 1,
     // A further opening of the page.
-    OpenedAgain,
+    OpenedAgain = 2,
 }
 
 // A fault with the number of its line, from 1.

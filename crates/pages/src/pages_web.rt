@@ -1,17 +1,18 @@
 // The page file as a Web.
-ghost use Rattle.std.specs.Prelude.{◌≡◌, ◌<◌, length, MatchOption, MatchResult};
+ghost use Rattle.std.specs.Prelude.{◌≡◌, ◌<◌, length, Some, None, MatchOption, MatchResult};
+ghost use Rattle.lines.specs.Steps.{triple_of};
 ghost use Rattle.pages.specs.Limits.{Made, too_long_number};
 ghost use Rattle.pages.specs.Lawful.{pages_lawful};
 ghost use Rattle.pages.specs.Pages.{address as address_of, web_meaning};
 ghost use Rattle.pages.specs.Steps.{Holds};
-ghost use Rattle.web.specs.Meaning.{absent, broken};
+ghost use Rattle.web.specs.Meaning.{absent, broken, listed, triples};
 
 use crate::cause::PageCause;
 use crate::pages::{Pages, TooLong};
 use crate::scan::{Seen, scan};
-use lines::{Class, Line, run, statement};
+use lines::{Class, Line, Stated, run, statement};
 use terms::{Kind, is_iri};
-use web::{Lookup, Unread, Web, Written, give};
+use web::{Unread, Web, Written, give};
 
 impl TooLong {
     pub fn number(self) -> u8
@@ -40,6 +41,22 @@ impl<'a> Pages<'a> {
         }
         scan(self.file, address(iri), place)
     }
+
+    // The triple at a place of the list that is found.
+    #[tactic(auto, using(crate::proofs::Telling::none_past))]
+    fn stated(&self, iri: &[u8], place: usize) -> Option<Stated<'a>>
+        ensures { MatchOption result (listed place (triples (web_meaning self.now.file.now iri.now)) ≡ None) (λ s. listed place (triples (web_meaning self.now.file.now iri.now)) ≡ Some (triple_of s)) }
+    {
+        let seen = self.seen(iri, place).ok()??;
+        if place >= seen.count {
+            return None;
+        }
+        let line = Line {
+            bytes: seen.stating,
+            number: 0,
+        };
+        statement(line).ok()
+    }
 }
 
 // The part of an IRI that names a page: what stands before its first `#`.
@@ -57,31 +74,12 @@ impl Web for Pages<'_> {
 
     ghost lawful = { λ w iri. pages_lawful w.file.now iri };
 
-    fn lookup(&self, iri: &[u8]) -> Lookup<PageCause> {
-        match self.seen(iri, 0) {
-            Ok(None) => Lookup::Absent,
-            Ok(Some(seen)) => Lookup::Found(seen.count),
-            Err(cause) => Lookup::Broken(cause),
-        }
+    fn lookup(&self, iri: &[u8]) -> Result<Option<usize>, PageCause> {
+        Ok(self.seen(iri, 0)?.map(|seen| seen.count))
     }
 
     fn read(&self, iri: &[u8], place: usize, part: u8, out: &mut [u8]) -> Result<Written, Unread> {
-        let Ok(page) = self.seen(iri, place) else {
-            return Err(Unread::NoSuch);
-        };
-        let Some(seen) = page else {
-            return Err(Unread::NoSuch);
-        };
-        if place >= seen.count {
-            return Err(Unread::NoSuch);
-        }
-        let line = Line {
-            bytes: seen.stating,
-            number: 0,
-        };
-        let Ok(stated) = statement(line) else {
-            return Err(Unread::NoSuch);
-        };
+        let stated = self.stated(iri, place).ok_or(Unread::NoSuch)?;
         match part {
             1 => give(Kind::Iri, stated.subject, out),
             2 => give(Kind::Iri, stated.predicate, out),

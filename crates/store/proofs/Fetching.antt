@@ -14,7 +14,6 @@ use Rattle.web.specs.declared.answers.Written.{Written}
 use Rattle.web.specs.declared.answers.Unread.{Unread}
 use Rattle.web.specs.declared.answers.Unread.TheVariants.{NoSuch, TooShort}
 use Rattle.web.specs.Answers.{answer, tells, leaves, written}
-use Rattle.web.specs.declared.answers.Lookup.TheVariants as Lookup
 use Rattle.web.specs.Meaning.{Triple, Looked, found, absent, broken, cell, listed, part_of, told, Mark as Cause}
 use Rattle.std.proofs.lemmas.List.{take_more, map_push}
 use Rattle.store.specs.declared.record.Mark.TheVariants as Mark
@@ -267,17 +266,17 @@ gathered_all ts ls xs i us ms h w g =
 
 -- ---- what a lookup answers
 
-pub found_so : {C : Type 0} (l : Looked C) (n : ℕ) → Lookup.Found n ≡ answer l → (xs : List Triple) × (l ≡ found xs) × (n ≡ length xs)
-found_so (found xs) n e = (xs, refl, cc)
-found_so absent n e = let z : ◌≡◌ {A = ℕ} 0 1 = cc in absurd (omega arith)
-found_so (broken c) n e = let z : ◌≡◌ {A = ℕ} 0 1 = cc in absurd (omega arith)
+pub found_so : {C : Type 0} (l : Looked C) (o : Option ℕ) (n : ℕ) → o ≡ Some n → Ok o ≡ answer l → (xs : List Triple) × (l ≡ found xs) × (n ≡ length xs)
+found_so (found xs) o n d e = (xs, refl, cc)
+found_so absent o n d e = let z : ◌≡◌ {A = ℕ} 0 1 = cc in absurd (omega arith)
+found_so (broken c) o n d e = let z : ◌≡◌ {A = ℕ} 0 1 = cc in absurd (omega arith)
 
-pub absent_so : {C : Type 0} (l : Looked C) → Lookup.Absent ≡ answer l → l ≡ absent
+pub absent_so : {C : Type 0} (l : Looked C) → Ok None ≡ answer l → l ≡ absent
 absent_so (found xs) e = let z : ◌≡◌ {A = ℕ} 0 1 = cc in absurd (omega arith)
 absent_so absent e = refl
 absent_so (broken c) e = let z : ◌≡◌ {A = ℕ} 0 1 = cc in absurd (omega arith)
 
-pub broken_so : {C : Type 0} (l : Looked C) (c : C) → Lookup.Broken c ≡ answer l → l ≡ broken c
+pub broken_so : {C : Type 0} (l : Looked C) (c : C) → Err c ≡ answer l → l ≡ broken c
 broken_so (found xs) c e = let z : ◌≡◌ {A = ℕ} 0 1 = cc in absurd (omega arith)
 broken_so absent c e = let z : ◌≡◌ {A = ℕ} 0 1 = cc in absurd (omega arith)
 broken_so (broken d) c e = cc

@@ -14,7 +14,7 @@ use crate::store::Store;
 use lexicon::Lexicon;
 use shelf::{Listed, Noted};
 use terms::Kind;
-use web::{Cause, Lookup, Web};
+use web::{Cause, Web};
 
 impl Unlooked {
     pub fn number(self) -> u8
@@ -85,7 +85,7 @@ fn fetch<W: Web>(web: &W, iri: &[u8], terms: &mut Lexicon, triples: &mut Vec<Lis
     ensures room { vec_capacity triples.new ≡ vec_capacity triples.old }
 {
     match web.lookup(iri) {
-        Lookup::Found(count) => {
+        Ok(Some(count)) => {
             let known = terms.count();
             let first = triples.len();
             if count > 4096 - first {
@@ -98,8 +98,8 @@ fn fetch<W: Web>(web: &W, iri: &[u8], terms: &mut Lexicon, triples: &mut Vec<Lis
             triples.truncate(first);
             Mark::Unfit
         }
-        Lookup::Absent => Mark::Absent,
-        Lookup::Broken(cause) => Mark::Broken(cause.code(), cause.place()),
+        Ok(None) => Mark::Absent,
+        Err(cause) => Mark::Broken(cause.code(), cause.place()),
     }
 }
 

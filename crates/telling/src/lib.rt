@@ -3,7 +3,7 @@
 
 use std::alloc::{AllocError, Global};
 use terms::Kind;
-use web::{Cause, Lookup, Web};
+use web::{Cause, Web};
 
 // A buffer is filled with this before each read.
 const BLANK: u8 = b'_';
@@ -53,14 +53,14 @@ pub fn write_web<W: Web>(
 ) -> Result<(), AllocError> {
     let mut count = 0;
     match web.lookup(iri) {
-        Lookup::Absent => out.extend_from_slice(b"absent")?,
-        Lookup::Broken(cause) => {
+        Ok(None) => out.extend_from_slice(b"absent")?,
+        Err(cause) => {
             out.extend_from_slice(b"broken ")?;
             write_number(heap, cause.code(), out)?;
             out.push(b' ')?;
             write_number(heap, cause.place(), out)?;
         }
-        Lookup::Found(length) => {
+        Ok(Some(length)) => {
             out.extend_from_slice(b"found ")?;
             write_number(heap, length as u64, out)?;
             count = length;

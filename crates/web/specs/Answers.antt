@@ -2,16 +2,14 @@
 use Rattle.std.specs.Prelude.{ℕ, cond, List, ◌++◌, length, drop, Some, None, Ok, Err, Option, Result, nat_le}
 use Rattle.terms.specs.Terms.{Term}
 use Rattle.web.specs.Meaning.{Looked, found, absent, broken}
-use Rattle.web.specs.declared.answers.Lookup.{Lookup}
-use Rattle.web.specs.declared.answers.Lookup.TheVariants.{Found, Absent, Broken}
 use Rattle.web.specs.declared.answers.Written.{Written}
 use Rattle.web.specs.declared.answers.Unread.{Unread}
 use Rattle.web.specs.declared.answers.Unread.TheVariants.{NoSuch, TooShort}
 
-abbrev pub answer : {C : Type 0} → Looked C → Lookup C
-answer (found ts) = Found (length ts)
-answer absent = Absent
-answer (broken c) = Broken c
+abbrev pub answer : {C : Type 0} → Looked C → Result (Option ℕ) C
+answer (found ts) = Ok (Some (length ts))
+answer absent = Ok None
+answer (broken c) = Err c
 
 -- the numbers of the refusals
 abbrev pub unread_number : Unread → ℕ

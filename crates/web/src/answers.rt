@@ -1,13 +1,5 @@
-// What a Web answers.
+// What a read answers.
 use terms::Kind;
-
-// What a lookup tells: the list's length, or the make's own cause.
-#[derive(Drop)]
-pub enum Lookup<C> {
-    Found(usize),
-    Absent,
-    Broken(C),
-}
 
 // The term that a read wrote at the buffer's front.
 #[derive(Clone, Copy)]
@@ -16,11 +8,11 @@ pub struct Written {
     pub length: usize,
 }
 
-// Why a read wrote nothing.
+// Why a read wrote nothing, by number.
 #[derive(Clone, Copy)]
 pub enum Unread {
     // The list has no such triple, or a triple no such part.
-    NoSuch,
+    NoSuch = 14,
     // The buffer is shorter than the term.
-    TooShort,
+    TooShort = 15,
 }

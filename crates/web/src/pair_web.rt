@@ -2,7 +2,7 @@
 ghost use Rattle.web.specs.Pairs.{both, either_mark};
 ghost use Rattle.web.specs.Paired.{pair_lawful};
 
-use crate::answers::{Lookup, Unread, Written};
+use crate::answers::{Unread, Written};
 use crate::pair::{Pair, PairCause};
 use crate::web::{Cause, Web};
 
@@ -31,20 +31,20 @@ impl<A: Web, B: Web> Web for Pair<A, B> {
 
     ghost lawful = { λ p iri. pair_lawful (A.Web.lawful p.first iri) (B.Web.lawful p.second iri) };
 
-    fn lookup(&self, iri: &[u8]) -> Lookup<PairCause<A::Cause, B::Cause>> {
+    fn lookup(&self, iri: &[u8]) -> Result<Option<usize>, PairCause<A::Cause, B::Cause>> {
+        // Arms, since `map_err(PairCause::First)` gets no proof yet: its result names the other cause's type, which nothing that it takes does.
         match self.first.lookup(iri) {
-            Lookup::Found(length) => Lookup::Found(length),
-            Lookup::Absent => match self.second.lookup(iri) {
-                Lookup::Found(length) => Lookup::Found(length),
-                Lookup::Absent => Lookup::Absent,
-                Lookup::Broken(cause) => Lookup::Broken(PairCause::Second(cause)),
+            Ok(None) => match self.second.lookup(iri) {
+                Ok(found) => Ok(found),
+                Err(cause) => Err(PairCause::Second(cause)),
             },
-            Lookup::Broken(cause) => Lookup::Broken(PairCause::First(cause)),
+            Ok(found) => Ok(found),
+            Err(cause) => Err(PairCause::First(cause)),
         }
     }
 
     fn read(&self, iri: &[u8], place: usize, part: u8, out: &mut [u8]) -> Result<Written, Unread> {
-        if let Lookup::Absent = self.first.lookup(iri) {
+        if let Ok(None) = self.first.lookup(iri) {
             self.second.read(iri, place, part, out)
         } else {
             self.first.read(iri, place, part, out)

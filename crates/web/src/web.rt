@@ -4,7 +4,7 @@ ghost use Rattle.web.specs.Answers.{answer, tells, leaves};
 ghost use Rattle.web.specs.Laws.{Lawful};
 ghost use Rattle.web.specs.Meaning.{Looked, Mark, cell};
 
-use crate::answers::{Lookup, Unread, Written};
+use crate::answers::{Unread, Written};
 
 // Why an address cannot be read. A make's own cause may say more than the two numbers that every cause tells.
 pub trait Cause {
@@ -26,10 +26,12 @@ pub trait Web {
     // Lists are within the limit and their terms lawful, and bytes that are no IRI are absent.
     ghost lawful: { (w : Self) (iri : List ℕ) → Lawful iri (meaning w iri) };
 
-    fn lookup(&self, iri: &[u8]) -> Lookup<Self::Cause>
+    // The length of the list that is found, `None` for absent, or the cause.
+    fn lookup(&self, iri: &[u8]) -> Result<Option<usize>, Self::Cause>
         ensures { result ≡ answer (meaning self.now iri.now) };
 
-    // Writes one term at the buffer's front: of the triple at a place from 0 the part 1 (subject), 2 (predicate) or 3 (object).
+    // Writes one term at the buffer's front: of the triple at a place from 0 the part 1 (subject), 2 (predicate) or 3 (object). A part is a number, since
+    // any other is refused too: a narrower type would ask more of callers.
     fn read(&self, iri: &[u8], place: usize, part: u8, out: &mut [u8]) -> Result<Written, Unread>
         ensures answer { result ≡ tells (cell (meaning self.now iri.now) place part) out.old }
         ensures buffer { out.new ≡ leaves (cell (meaning self.now iri.now) place part) out.old };

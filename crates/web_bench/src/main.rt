@@ -4,7 +4,7 @@
 use lines::{Lines, opening};
 use pages::Pages;
 use std::io::Read;
-use web::{Lookup, Web};
+use web::Web;
 
 #[derive(Clone, Copy)]
 struct Sums {
@@ -36,7 +36,7 @@ fn read_one<W: Web>(web: &W, iri: &[u8], place: usize, part: u8, sums: Sums) -> 
 fn read_all<W: Web>(web: &W, iri: &[u8], sums: Sums) -> Sums {
     let mut sums = sums;
     sums.lookups = sums.lookups.wrapping_add(1);
-    if let Lookup::Found(count) = web.lookup(iri) {
+    if let Ok(Some(count)) = web.lookup(iri) {
         for place in 0..count {
             for part in 1..4 {
                 sums = read_one(web, iri, place, part, sums);
