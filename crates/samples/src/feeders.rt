@@ -2,7 +2,7 @@ ghost use Rattle.samples.specs.Texts.{PlannersAskThem};
 ghost use Rattle.samples.specs.Feeders.{TwoOrdersOfOneQuestion, FirstList, SecondList, ListsOfPresence, OneListByName, BothCanBeWalked, OneSetOfDocuments};
 
 // The capacitor that filled two feeders: one question in two orders, with one list.
-pub fn feeders_show_it() -> u8
+pub fn feeders_show_it()
     ensures texts { PlannersAskThem }
     ensures alike { TwoOrdersOfOneQuestion }
     ensures first { FirstList }
@@ -11,6 +11,4 @@ pub fn feeders_show_it() -> u8
     ensures names { OneListByName }
     ensures documents { OneSetOfDocuments }
     ensures walked { BothCanBeWalked }
-{
-    0
-}
+{}

@@ -1,12 +1,10 @@
 ghost use Rattle.samples.specs.Static.{ItCanBeWalked, JudgingOrdersThePlan, LeftSideGoesFirst, SequenceBeginsOnTheLeft, NoMiddleNoSecondStep};
 
 // Which side goes first does not depend on the terms at hand: the left one where judging allows.
-pub fn plans_are_static() -> u8
+pub fn plans_are_static()
     ensures walked { ItCanBeWalked }
     ensures order { JudgingOrdersThePlan }
     ensures left { LeftSideGoesFirst }
     ensures step { SequenceBeginsOnTheLeft }
     ensures middle { NoMiddleNoSecondStep }
-{
-    0
-}
+{}

@@ -6,7 +6,7 @@ ghost use Rattle.samples.specs.Shelf.{ThreePagesSuffice};
 ghost use Rattle.samples.specs.Shown.{PagesThatAreNeeded};
 
 // Eleven questions over a file of four pages.
-pub fn pages_show_it() -> u8
+pub fn pages_show_it()
     ensures texts { TextsAskThem }
     ensures ways { TwoWaysCountTwo }
     ensures presence { PresenceCountsNoWays }
@@ -23,6 +23,4 @@ pub fn pages_show_it() -> u8
     ensures needed { PagesThatAreNeeded }
     ensures suffice { ThreePagesSuffice }
     ensures web { FileIsAWeb }
-{
-    0
-}
+{}
