@@ -51,10 +51,8 @@ fn opened(rest: &[u8]) -> Option<&[u8]>
 }
 
 // What an input asks is settled by the definitions, and of a question within a limit by the input's first bytes.
-pub fn parting_is_exact() -> u8
+pub fn parting_is_exact()
     ensures once { OneParting }
     ensures front { FrontSettles }
     ensures pages { FrontSettlesPages }
-{
-    0
-}
+{}
