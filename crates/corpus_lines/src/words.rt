@@ -1,0 +1,25 @@
+// Bytes from hex.
+ghost use Rattle.std.specs.Prelude.{◌≡◌, ◌≢◌, ℕ, List, IfOk, MatchOption};
+ghost use Rattle.hex.specs.Hex.{IsBytes, encode_lower};
+
+use hex::FromHexError;
+use std::alloc::{AllocError, Global};
+
+// The bytes that a word spells, if it is in hex with small letters.
+pub fn unhex(heap: Global, word: &[u8]) -> Result<Option<Vec<u8>>, AllocError>
+    ensures { IfOk result (λ found. MatchOption found ((bytes : List ℕ) → IsBytes bytes → word.now ≢ encode_lower bytes) (λ v. word.now ≡ encode_lower v.items)) }
+{
+    let bytes = match hex::decode(heap, word) {
+        Ok(bytes) => bytes,
+        Err(refused) => match refused {
+            FromHexError::OutOfMemory => return Err(AllocError),
+            _ => return Ok(None),
+        },
+    };
+    // Capital letters decode too, but these bytes are not written so.
+    if hex::encode(heap, bytes.as_slice())?.as_bytes() == word {
+        Ok(Some(bytes))
+    } else {
+        Ok(None)
+    }
+}
