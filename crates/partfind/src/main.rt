@@ -6,15 +6,13 @@ mod tell;
 
 use question::Draft;
 use std::io;
-
-// A question has at most 2,048 bytes. The line that parts it from the pages takes three more.
-const ENOUGH: usize = 2051;
+use std::io::Read;
 
 fn main(rt: HostRuntime) -> io::Result<()> {
-    let mut room = [0u8; ENOUGH];
-    let count = front::fill(&mut rt.stdin(), &mut room)?;
+    let mut bytes = Vec::new(rt.alloc());
+    rt.stdin().take(front::ENOUGH).read_to_end(&mut bytes)?;
     let mut draft = Draft::new(rt.alloc())?;
-    match front::ask(&mut draft, &room[0..count]) {
+    match front::ask(&mut draft, bytes.as_slice()) {
         Ok(()) => tell::question(&rt, &draft),
         Err(refusal) => tell::refusal(&rt, &refusal),
     }
