@@ -1,6 +1,5 @@
 -- Text that is added piece by piece.
-use Rattle.std.proofs.Common.{◌≡◌, ℕ, suc, ◌+◌, ◌-◌, ◌/◌, ◌%◌, ◌^◌, ◌<◌, ◌≤◌, List, [], ◌∷◌, ◌++◌, map, length, get_or, drop, IfOk, Ok, Err, codes, decimal, Result, sym, refl, ap, ◌∙◌, subst, append_assoc, append-nil, arith}
-use Rattle.std.proofs.lemmas.Fmt.{decimal_digit, decimal_step}
+use Rattle.std.proofs.Common.{◌≡◌, ℕ, suc, ◌+◌, ◌-◌, ◌<◌, ◌≤◌, List, [], ◌∷◌, ◌++◌, map, length, get_or, drop, IfOk, Ok, Err, codes, Result, sym, refl, ap, ◌∙◌, subst, append_assoc, append-nil, arith}
 use Rattle.std.proofs.lemmas.List.{drop_more, drop_all}
 use Rattle.terms.specs.Terms.{Term}
 use Rattle.grammar.specs.Grammar.{Name}
@@ -27,16 +26,6 @@ adds_from {X} {Y} {r} {v} {w} {y} {a} e p = subst (λ l. Adds r l y a) e p
 
 pub adds_none : {Y : Type 0} {w : List ℕ} → Adds {X = Unit {0}} {Y = Y} (Ok tt) w w []
 adds_none {Y} {w} = record { wrote = sym (append-nil w) }
-
--- ---- numbers
-
-pub number_more : {X Y Z W : Type 0} {r : Result X Y} {u : Z} {w x y : List ℕ} (n : ℕ) → 10 ≤ n → n < 2 ^ 64 → Adds {X = Z} {Y = W} (Ok u) w x (decimal (n / 10)) → Adds r x y ((48 + n % 10) ∷ []) → Adds r w y (decimal n)
-number_more n le fits p q = adds_as (sym (decimal_step n le fits)) (then p q)
-
-pub number_last : {X Y : Type 0} {r : Result X Y} {w y : List ℕ} (n : ℕ) → n < 10 → Adds r w y ((48 + n % 10) ∷ []) → Adds r w y (decimal n)
-number_last n lt p =
-    let e : n % 10 ≡ n = omega arith in
-    adds_as (ap (λ k. (48 + k) ∷ []) e ∙ sym (decimal_digit n lt)) p
 
 -- ---- lists, from the front: what is written and what is left make up the whole
 

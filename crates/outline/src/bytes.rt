@@ -14,9 +14,6 @@ pub fn put(bytes: &[u8], out: &mut Vec<u8>) -> Result<(), AllocError>
 pub fn put_number(n: usize, out: &mut Vec<u8>) -> Result<(), AllocError>
     ensures { Adds result out.old.items out.new.items (decimal n) }
 {
-    if n >= 10 {
-        put_number(n / 10, out)?;
-    }
-    let digit = [b'0' + (n % 10) as u8];
-    put(&digit, out)
+    let digits = n.to_string(*out.allocator())?;
+    put(digits.as_bytes(), out)
 }

@@ -13,10 +13,7 @@ pub fn put_name(q: &Question, number: usize, out: &mut Vec<u8>) -> Result<(), Al
     ensures { Adds result out.old.items out.new.items (name_text (name_at q.now number)) }
 {
     put(b"?", out)?;
-    match q.name(number) {
-        Some(bytes) => put(bytes, out),
-        None => Ok(()),
-    }
+    put(q.name(number).unwrap_or(b""), out)
 }
 
 pub fn put_term(q: &Question, number: usize, out: &mut Vec<u8>) -> Result<(), AllocError>

@@ -27,13 +27,11 @@ pub fn write_refusal(r: &Refusal, out: &mut Vec<u8>) -> Result<(), AllocError>
 {
     put(b"refused ", out)?;
     put_number(usize::from(r.number()), out)?;
-    match r.offset() {
-        Some(at) => {
-            put(b" at ", out)?;
-            put_number(at, out)
-        }
-        None => Ok(()),
+    if let Some(at) = r.offset() {
+        put(b" at ", out)?;
+        put_number(at, out)?;
     }
+    Ok(())
 }
 
 pub fn write_verdict(verdict: Result<u32, NotBounded>, out: &mut Vec<u8>) -> Result<(), AllocError>

@@ -3,16 +3,10 @@ use Rattle.grammar.specs.Syntax.{negated}
 use Rattle.question.specs.Arena.{path_of}
 use Rattle.outline.specs.Outlined.{path_text}
 use Rattle.question.specs.Parts.{env_of}
-use Rattle.outline.proofs.Adding.{then, adds_as}
+use Rattle.outline.proofs.Adding.{adds_as}
 use Rattle.question.proofs.Standing.{past_limit, past_all}
 use Rattle.outline.proofs.Standing.{path_here}
 use Rattle.outline.proofs.paths.+path_text.Goals as goal
-
-pub put_one-returns : goal.put_one-returns
-put_one-returns t c = then c.in_ok-put.ensures (then c.in_ok-put_path.ensures c.put-2.ensures)
-
-pub put_two-returns : goal.put_two-returns
-put_two-returns t c = then c.in_ok-put.ensures (then c.in_ok-put_path.ensures (then c.in_ok-put-2.ensures (then c.in_ok-put_path-2.ensures c.put-3.ensures)))
 
 pub put_path-returns-then-index-limit : goal.put_path-returns-then-index-limit
 put_path-returns-then-index-limit t c =

@@ -1,6 +1,6 @@
 use Rattle.std.proofs.Common.{◌+◌, vec_items}
 use Rattle.question.specs.Parts.{env_of}
-use Rattle.outline.proofs.Adding.{then, member_more, members_done}
+use Rattle.outline.proofs.Adding.{member_more}
 use Rattle.outline.proofs.Standing.{term_capped}
 use Rattle.outline.proofs.paths.put_negated.Goals as goal
 
@@ -10,10 +10,3 @@ loop-i-preserved c =
     member_more (env_of q).term c.args.first c.args.count c.loop-i.i c.saturating_add.result _ (vec_items c.loop-i.out) (vec_items c.put-in-loop-i.new.out) (vec_items c.put_term.new.out)
     c.loop-i-test.true (term_capped q (c.args.first + c.loop-i.i) c.saturating_add.result c.saturating_add.ensures)
     c.in_ok-put-2.ensures.wrote c.in_ok-put_term.ensures.wrote c.loop-i.invariant
-
-pub returns : goal.returns
-returns c =
-    let q = c.args.q.now in
-    then c.in_ok-put.ensures
-    (then (members_done (env_of q).term c.args.first c.args.count c.loop-i.i (vec_items c.put.new.out) (vec_items c.loop-i.out) c.loop-i-test.false c.loop-i.invariant)
-    c.put-2.ensures)

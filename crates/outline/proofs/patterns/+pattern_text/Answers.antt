@@ -3,13 +3,10 @@ use Rattle.grammar.specs.Syntax.{empty}
 use Rattle.question.specs.Arena.{pattern_of}
 use Rattle.outline.specs.Outlined.{pattern_text}
 use Rattle.question.specs.Parts.{env_of}
-use Rattle.outline.proofs.Adding.{then, adds_as}
+use Rattle.outline.proofs.Adding.{adds_as}
 use Rattle.question.proofs.Standing.{past_limit, past_all}
 use Rattle.outline.proofs.Standing.{pattern_here}
 use Rattle.outline.proofs.patterns.+pattern_text.Goals as goal
-
-pub put_both-returns : goal.put_both-returns
-put_both-returns t c = then c.in_ok-put.ensures (then c.in_ok-put_pattern.ensures (then c.in_ok-put-2.ensures (then c.in_ok-put_pattern-2.ensures c.put-3.ensures)))
 
 pub put_pattern-returns-then-index-limit : goal.put_pattern-returns-then-index-limit
 put_pattern-returns-then-index-limit t c =
