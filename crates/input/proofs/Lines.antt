@@ -2,7 +2,7 @@
 use Rattle.std.proofs.Common.{◌≡◌, ℕ, ◌+◌, ◌-◌, ◌<◌, ◌≤◌, true, false, eqb, ◌⊎◌, List, [], ◌∷◌, ◌++◌, length, get_or, take, drop, codes, MatchBool, sym, refl, ap, ◌∙◌, subst, inl, inr, arith}
 use Rattle.std.proofs.lemmas.Bool.{cases_lt}
 use Rattle.std.proofs.lemmas.Bool.Decides.{eqb_tells}
-use Rattle.std.proofs.lemmas.List.{append_cancel_left, take-append-drop, length-append, length-take-le, take_at, take_rest, take_more, drop_all, same_from_push}
+use Rattle.std.proofs.lemmas.List.{append_cancel_left, take-append-drop, length-append, length-take-le, take_at, take_rest, take_more, same_from_push}
 use Rattle.input.specs.Parting.{BeginsLine, Opens, Line, Parted, OneParting}
 
 -- ---- the bytes at which it begins
@@ -89,14 +89,11 @@ not_before xs i f before pages l = go (cases_lt (length before) i)
 
 -- ---- the parts
 
-pub parted_at : (xs : List ℕ) (i : ℕ) (pages : List ℕ) → i ≤ length xs → NoneBefore xs i → Line xs (take i xs) pages → Parted xs (take (i - 0) xs) pages
-parted_at xs i pages h f l =
-    let e : i ≡ i - 0 = omega arith in
-    subst (λ k. Parted xs (take k xs) pages) e (inl (l, λ before after m. omega (arith, length-take-le i xs h, not_before xs i f before after m)))
+pub parted_at : (xs : List ℕ) (i : ℕ) (pages : List ℕ) → i ≤ length xs → NoneBefore xs i → Line xs (take i xs) pages → Parted xs (take i xs) pages
+parted_at xs i pages h f l = inl (l, λ before after m. omega (arith, length-take-le i xs h, not_before xs i f before after m))
 
-pub parted_whole : (xs : List ℕ) (i : ℕ) → length xs ≤ i → NoneBefore xs i → Parted xs xs (take (length xs - length xs) (drop (length xs) xs))
-parted_whole xs i h f =
-    inr (refl, take_rest xs (length xs) ∙ drop_all (length xs) xs (omega arith), λ before after m. omega (arith, not_before xs i f before after m, line_fits xs before after m))
+pub parted_whole : (xs : List ℕ) (i : ℕ) → length xs ≤ i → NoneBefore xs i → Parted xs xs []
+parted_whole xs i h f = inr (refl, refl, λ before after m. omega (arith, not_before xs i f before after m, line_fits xs before after m))
 
 same_front : (xs before b pages p : List ℕ) → Line xs before pages → Line xs b p → length before ≡ length b → before ≡ b
 same_front xs before b pages p l m e = sym (line_front xs before pages l) ∙ ap (λ n. take n xs) e ∙ line_front xs b p m

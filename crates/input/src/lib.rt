@@ -2,7 +2,7 @@
 #![tactic(auto)]
 
 ghost use Rattle.std.specs.Prelude.{ℕ, ◌≤◌, List, length, take, MatchBool, MatchOption};
-ghost use Rattle.input.specs.Parting.{BeginsLine, Opens, Parted, OneParting, FrontSettles, FrontSettlesPages};
+ghost use Rattle.input.specs.Parting.{BeginsLine, Opens, Line, Parted, OneParting, FrontSettles, FrontSettlesPages};
 
 #[derive(Drop)]
 pub struct Parts<'a> {
@@ -16,19 +16,29 @@ impl<'a> Parts<'a> {
         ensures { Parted input.now result.question.now result.pages.now }
     {
         for at in 0..input.len() {
-            if begins_line(input, at) {
-                if let Some(pages) = opened(&input[at..]) {
-                    return Parts {
-                        question: &input[0..at],
-                        pages,
-                    };
-                }
+            if let Some(pages) = pages_at(input, at) {
+                return Parts {
+                    question: &input[..at],
+                    pages,
+                };
             }
         }
         Parts {
             question: input,
-            pages: &input[input.len()..],
+            pages: &[],
         }
+    }
+}
+
+// The pages that a line `==` at this place opens.
+fn pages_at(input: &[u8], at: usize) -> Option<&[u8]>
+    requires { at ≤ length input.now }
+    ensures { MatchOption result ((pages : List ℕ) → Line input.now (take at input.now) pages → ⊥) (λ pages. Line input.now (take at input.now) pages.now) }
+{
+    if begins_line(input, at) {
+        opened(&input[at..])
+    } else {
+        None
     }
 }
 
