@@ -1,0 +1,3 @@
+// There is no room for what was to be kept.
+#[derive(Clone, Copy, Debug)]
+pub struct Full;
