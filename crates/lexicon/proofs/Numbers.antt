@@ -1,10 +1,13 @@
 -- Numbers of terms in a list, and what entering does to them.
-use Rattle.std.proofs.Common.{◌≡◌, ℕ, zero, suc, ◌+◌, ◌<◌, ◌≤◌, Bool, true, false, cond, ◌&&◌, eqb, leb, List, [], ◌∷◌, ◌++◌, length, get_or, take, Some, None, Decides, sym, refl, ap, ◌∙◌, subst, ap₂, append_assoc, append-nil, add-one, arith, length-append, take_all, eq-eqb, ne_eqb, eqb-true, le-leb, leb-false, leb-true}
+use Rattle.std.proofs.Common.{◌≡◌, ℕ, zero, suc, ◌+◌, ◌<◌, ◌≤◌, Bool, true, false, cond, ◌&&◌, eqb, leb, List, [], ◌∷◌, ◌++◌, length, get_or, take, unwrap_or, Some, None, sym, refl, ap, ◌∙◌, subst, ap₂, append_assoc, append-nil, add-one, arith, length-append, take_all, eq-eqb, ne_eqb, eqb-true, le-leb, leb-false, leb-true}
+use denote.Enum.Bare.{sameb}
+use lib.Pointwise.{pointwise}
 use Rattle.terms.specs.Terms.{Term}
+use Rattle.terms.specs.contracts.kind.Kind.{the_type}
 use Rattle.terms.specs.declared.kind.Kind.{Kind}
 use Rattle.terms.specs.declared.kind.Kind.TheVariants.{Iri, Literal}
 use Rattle.tokens.specs.Lexed.{same_bytes}
-use Rattle.lexicon.specs.Numbering.{term, same_kind, same_term, one_on, number_of, term_at, enter, enter_all, bytes_of, within, admit, admitted}
+use Rattle.lexicon.specs.Numbering.{term, same_kind, same_term, one_on, number_of, told_number, term_at, enter, enter_all, bytes_of, within, admit, admitted}
 
 pub and_left : (a b : Bool) → (a && b) ≡ true → a ≡ true
 and_left true b e = refl
@@ -43,13 +46,18 @@ term_same a b e =
 pub term_self : (t : Term) → same_term t t ≡ true
 term_self t = ap₂ ◌&&◌ (kind_self t.kind) (bytes_self t.bytes)
 
-pub decides_same : (xs ys : List ℕ) (r : Bool) → Decides r (xs ≡ ys) → r ≡ same_bytes xs ys
-decides_same xs ys r d = go r (same_bytes xs ys) refl refl
-  where
-    go : (a b : Bool) → r ≡ a → same_bytes xs ys ≡ b → r ≡ same_bytes xs ys
-    go true b e f = e ∙ sym (subst (λ (l : List ℕ). same_bytes xs l ≡ true) (d.0 e) (bytes_self xs))
-    go false true e f = d.1 (bytes_same xs ys f) ∙ sym f
-    go false false e f = e ∙ sym f
+-- equal as `==` finds it
+pub kinds_equal : (a b : Kind) → sameb the_type a b ≡ same_kind a b
+kinds_equal Iri Iri = refl
+kinds_equal Iri Literal = refl
+kinds_equal Literal Iri = refl
+kinds_equal Literal Literal = refl
+
+pub bytes_equal : (xs ys : List ℕ) → pointwise eqb xs ys ≡ same_bytes xs ys
+bytes_equal [] [] = refl
+bytes_equal [] (y ∷ ys) = refl
+bytes_equal (x ∷ xs) [] = refl
+bytes_equal (x ∷ xs) (y ∷ ys) = ap (λ (b : Bool). eqb x y && b) (bytes_equal xs ys)
 
 -- ---- one on
 
@@ -66,6 +74,23 @@ on_none zero h = refl
 on_none (suc n) h = absurd (omega arith)
 
 -- ---- numbers
+
+-- what is told of a number
+pub told_some : (n m : ℕ) → m + 1 ≡ n → Some (m + 1) ≡ told_number n
+told_some zero m e = absurd (omega arith)
+told_some (suc n) m e = ap Some e
+
+pub told_is : (n m : ℕ) → Some m ≡ told_number n → (m ≡ n) × (0 < m)
+told_is zero m e = absurd (cc)
+told_is (suc n) m e = grind arith
+
+pub told_or : (n : ℕ) → unwrap_or (told_number n) 0 ≡ n
+told_or zero = refl
+told_or (suc n) = refl
+
+pub told_none : (n : ℕ) → None ≡ told_number n → n ≡ 0
+told_none zero e = refl
+told_none (suc n) e = absurd (cc)
 
 pub number_front : (ts x : List Term) (u : Term) → 0 < number_of ts u → number_of (ts ++ x) u ≡ number_of ts u
 unfolding number_of

@@ -26,6 +26,11 @@ unfoldable pub number_of : List Term → Term → ℕ
 number_of [] t = 0
 number_of (x ∷ xs) t = cond (same_term x t) 1 (one_on (number_of xs t))
 
+-- a number as it is told: 0 is the number of no term
+abbrev pub told_number : ℕ → Option ℕ
+told_number zero = None
+told_number (suc n) = Some (suc n)
+
 -- the term with a number
 abbrev pub term_at : List Term → ℕ → Option Term
 term_at [] n = None

@@ -1,30 +1,16 @@
 // Terms and their numbers.
-ghost use Rattle.std.specs.Prelude.{◌≡◌, ◌<◌, map, length, get_or, vec_len, slice_index_or};
-ghost use Rattle.tokens.specs.Lexed.{same_bytes};
-ghost use Rattle.lexicon.specs.Numbering.{bytes_of, number_of, same_kind, same_term, term as the, term_at, tell};
+ghost use Rattle.std.specs.Prelude.{◌≡◌, ◌<◌, map, length, get_or, slice_index_or};
+ghost use Rattle.room.specs.Items.{items};
+ghost use Rattle.lexicon.specs.Numbering.{bytes_of, number_of, same_term, term as the, term_at, tell, told_number};
 ghost use Rattle.lexicon.specs.Parts.{no_term};
 ghost use Rattle.lexicon.specs.Held.{held, kind_of};
 
 use crate::lexicon::Lexicon;
 use terms::Kind;
 
-fn same_kind(a: Kind, b: Kind) -> bool
-    ensures { result ≡ same_kind a b }
-{
-    match a {
-        Kind::Iri => matches!(b, Kind::Iri),
-        Kind::Literal => matches!(b, Kind::Literal),
-    }
-}
-
-fn same_bytes(a: &[u8], b: &[u8]) -> bool
-    ensures { result ≡ same_bytes a.now b.now }
-{
-    a == b
-}
-
 impl Lexicon {
     // How many terms there are.
+    #[tactic(auto, using(crate::proofs::Holding::held_count))]
     pub fn count(&self) -> usize
         ensures { result ≡ length (held self.now) }
     {
@@ -32,6 +18,7 @@ impl Lexicon {
     }
 
     // How many bytes they have together, without marks.
+    #[tactic(auto, using(crate::proofs::Holding::held_bytes))]
     pub fn bytes(&self) -> usize
         ensures { result ≡ bytes_of (held self.now) }
     {
@@ -39,6 +26,7 @@ impl Lexicon {
     }
 
     // The kinds of the terms, in the order of their numbers.
+    #[tactic(auto, using(crate::proofs::Holding::held_kinds))]
     pub fn kinds(&self) -> &[Kind]
         ensures { result.now ≡ map kind_of (held self.now) }
     {
@@ -46,43 +34,39 @@ impl Lexicon {
     }
 
     fn bytes_at(&self, place: usize) -> &[u8]
-        requires { place < vec_len self.now.kinds }
+        requires { place < length (items self.now.kinds) }
         ensures { result.now ≡ (get_or (held self.now) place no_term).bytes }
     {
-        let part = self.parts[place];
-        let start = part.start;
-        let end = start + part.size;
-        &self.text[start..end]
+        let part = self.parts.as_slice()[place];
+        let end = part.start + part.size;
+        &self.text.as_slice()[part.start..end]
     }
 
     // The term with a number.
     pub fn term(&self, number: u16) -> Option<(Kind, &[u8])>
         ensures { tell (λ x. the x.0 x.1.now) result ≡ term_at (held self.now) number }
     {
-        let number = number as usize;
-        if number == 0 || number > self.kinds.len() {
-            return None;
-        }
-        let place = number - 1;
-        Some((self.kinds[place], self.bytes_at(place)))
+        let place = (number as usize).checked_sub(1)?;
+        let kind = self.kinds.as_slice().get(place)?;
+        Some((*kind, self.bytes_at(place)))
     }
 
     fn is_at(&self, place: usize, kind: Kind, bytes: &[u8]) -> bool
-        requires { place < vec_len self.now.kinds }
+        requires { place < length (items self.now.kinds) }
         ensures { result ≡ same_term (slice_index_or (held self.now) place no_term) (the kind bytes.now) }
     {
-        same_kind(self.kinds[place], kind) && same_bytes(self.bytes_at(place), bytes)
+        self.kinds.as_slice()[place] == kind && self.bytes_at(place) == bytes
     }
 
-    // The number of a term, or 0 if it is not there.
-    pub fn number(&self, kind: Kind, bytes: &[u8]) -> u16
-        ensures { result ≡ number_of (held self.now) (the kind bytes.now) }
+    // The number of a term, if it is there.
+    pub fn number(&self, kind: Kind, bytes: &[u8]) -> Option<u16>
+        ensures { result ≡ told_number (number_of (held self.now) (the kind bytes.now)) }
     {
         for place in 0..self.kinds.len() {
             if self.is_at(place, kind, bytes) {
-                return (place + 1) as u16;
+                return Some((place + 1) as u16);
             }
         }
-        0
+        None
     }
 }

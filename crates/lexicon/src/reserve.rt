@@ -3,6 +3,7 @@ ghost use Rattle.std.specs.Prelude.{◌≡◌, [], IfOk};
 ghost use Rattle.lexicon.specs.Held.{held};
 
 use crate::lexicon::Lexicon;
+use room::Room;
 use std::alloc::{AllocError, Global};
 
 impl Lexicon {
@@ -10,9 +11,10 @@ impl Lexicon {
     pub fn reserve(heap: Global) -> Result<Lexicon, AllocError>
         ensures { IfOk result (λ l. held l ≡ []) }
     {
-        let text = Vec::with_capacity(heap, 32768)?;
-        let kinds = Vec::with_capacity(heap, 1024)?;
-        let parts = Vec::with_capacity(heap, 1024)?;
-        Ok(Lexicon { text, kinds, parts })
+        Ok(Lexicon {
+            text: Room::reserve(heap)?,
+            kinds: Room::reserve(heap)?,
+            parts: Room::reserve(heap)?,
+        })
     }
 }

@@ -12,10 +12,7 @@ impl Unspelled {
     pub fn number(self) -> u8
         ensures { result ≡ unspelled_number self }
     {
-        match self {
-            Unspelled::NoSuch => 14,
-            Unspelled::TooShort => 15,
-        }
+        self as u8
     }
 }
 
@@ -56,10 +53,11 @@ impl Lexicon {
         let Some((kind, bytes)) = self.term(number) else {
             return Err(Unspelled::NoSuch);
         };
-        if out.len() < 2 || out.len() - 2 < bytes.len() {
+        let size = bytes.len() + 2;
+        if out.len() < size {
             return Err(Unspelled::TooShort);
         }
         write(kind, bytes, out);
-        Ok(bytes.len() + 2)
+        Ok(size)
     }
 }

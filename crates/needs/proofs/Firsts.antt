@@ -1,9 +1,11 @@
 -- The first place that passes a test.
-use Rattle.std.proofs.Common.{◌≡◌, ℕ, zero, suc, ◌+◌, ◌<◌, ◌≤◌, Bool, true, false, cond, List, [], ◌∷◌, length, get_or, take, Some, None, Ok, Err, Option, sym, refl, ap, ◌∙◌, subst, add-one, arith, take_all}
+use Rattle.std.proofs.Common.{◌≡◌, ℕ, zero, suc, ◌+◌, ◌<◌, Bool, true, false, cond, not, ltb, position, List, [], ◌∷◌, length, get_or, Some, None, Option, sym, refl, ap, ◌∙◌, arith, ltb-false, ltb-true, le-ltb, lt-ltb}
+use Rattle.std.specs.List.{position_or_len}
+use Rattle.shelf.specs.declared.items.Noted.{Noted}
+use Rattle.shelf.specs.Contexts.{size}
 use Rattle.lexicon.specs.Numbering.{tell}
 use Rattle.store.specs.declared.record.Entry.{Entry}
-use Rattle.store.specs.declared.refusals.NoEntry.{NoEntry}
-use Rattle.store.specs.State.{traced}
+use Rattle.store.specs.State.{placed}
 use Rattle.needs.specs.Needs.{first_where}
 use Rattle.needs.specs.Needs as goal
 
@@ -53,48 +55,28 @@ none_is p (x ∷ es) k d e h = go (p x) refl e k h (λ j f g. none_is p es j d f
 
 -- ---- looking through the record
 
--- an entry was told
-pub traced_ok : (es : List Entry) (i : ℕ) (e : Entry) → Ok e ≡ traced es i → (i < length es) × (get_or es i e ≡ e)
-traced_ok [] i e h = let z : ◌≡◌ {A = ℕ} 0 1 = cc in absurd (omega arith)
-traced_ok (x ∷ es) zero e h = (omega arith, cc)
-traced_ok (x ∷ es) (suc i) e h = let r = traced_ok es i e h in (omega (arith, r.0), r.1)
+abbrev entry : Noted → Entry
+entry n = record { iri = n.iri; mark = n.mark }
 
-pub traced_err : (es : List Entry) (i : ℕ) (u : NoEntry) → Err u ≡ traced es i → length es ≤ i
-traced_err [] i u h = omega arith
-traced_err (x ∷ es) zero u h = let z : ◌≡◌ {A = ℕ} 0 1 = cc in absurd (omega arith)
-traced_err (x ∷ es) (suc i) u h = omega (arith, traced_err es i u h)
-
-pub first_start : (p : Entry → Bool) (es : List Entry) → first_where p (take 0 es) ≡ None
-unfolding first_where
-first_start p es = refl
-
-more : (p : Entry → Bool) (es : List Entry) (i : ℕ) (d : Entry) → i < length es → first_where p (take i es) ≡ None → p (get_or es i d) ≡ false → first_where p (take (suc i) es) ≡ None
-unfolding first_where
-more p [] i d lt h e = absurd (omega arith)
-more p (x ∷ es) zero d lt h e = ap (λ b. cond b (Some 0) None) e
-more p (x ∷ es) (suc i) d lt h e = go (p x) h (λ f. more p es i d (omega arith) f e)
+step : (k n m : ℕ) → k ≡ suc n → cond (ltb k (suc m)) (Some k) None ≡ tell suc (cond (ltb n m) (Some n) None)
+step k n m e = ap (λ j. cond (ltb j (suc m)) (Some j) None) e ∙ go (ltb n m) refl
   where
-    go : (b : Bool) → cond b (Some 0) (tell suc (first_where p (take i es))) ≡ None → (first_where p (take i es) ≡ None → first_where p (take (suc i) es) ≡ None) → cond b (Some 0) (tell suc (first_where p (take (suc i) es))) ≡ None
-    go true h r = none_some 0 (sym h)
-    go false h r = ap (tell suc) (r (tell_none (first_where p (take i es)) h))
+    go : (b : Bool) → ltb n m ≡ b → cond (ltb (suc n) (suc m)) (Some (suc n)) None ≡ tell suc (cond b (Some n) None)
+    go true t = ap (λ c. cond c (Some (suc n)) None) (lt-ltb (suc n) (suc m) (omega (arith, ltb-true n m t)))
+    go false t = ap (λ c. cond c (Some (suc n)) None) (le-ltb (suc n) (suc m) (omega (arith, ltb-false n m t)))
 
-here : (p : Entry → Bool) (es : List Entry) (i : ℕ) (d : Entry) → i < length es → first_where p (take i es) ≡ None → p (get_or es i d) ≡ true → first_where p es ≡ Some i
+-- a place in the record, by what the record lends
+pub first_placed : (p : Entry → Bool) (first : ℕ) (es : List Entry) → position (λ n. p (entry n)) (placed first es) ≡ first_where p es
 unfolding first_where
-here p [] i d lt h e = absurd (omega arith)
-here p (x ∷ es) zero d lt h e = ap (λ b. cond b (Some 0) (tell suc (first_where p es))) e
-here p (x ∷ es) (suc i) d lt h e = go (p x) h (λ f. here p es i d (omega arith) f e)
+first_placed p first [] = refl
+first_placed p first (e ∷ es) = go (p e) (first_placed p (first + size e.mark) es)
   where
-    go : (b : Bool) → cond b (Some 0) (tell suc (first_where p (take i es))) ≡ None → (first_where p (take i es) ≡ None → first_where p es ≡ Some i) → cond b (Some 0) (tell suc (first_where p es)) ≡ Some (suc i)
-    go true h r = none_some 0 (sym h)
-    go false h r = ap (tell suc) (r (tell_none (first_where p (take i es)) h))
+    place : ℕ
+    place = position_or_len (λ n. p (entry n)) (placed (first + size e.mark) es)
 
-pub first_more : (p : Entry → Bool) (es : List Entry) (i : ℕ) (e : Entry) → Ok e ≡ traced es i → first_where p (take i es) ≡ None → p e ≡ false → first_where p (take (i + 1) es) ≡ None
-first_more p es i e t h f =
-    let r = traced_ok es i e t in
-    subst (λ (k : ℕ). first_where p (take k es) ≡ None) (sym (add-one i)) (more p es i e r.0 h (ap p r.1 ∙ f))
+    count : ℕ
+    count = length (placed (first + size e.mark) es)
 
-pub first_here : (p : Entry → Bool) (es : List Entry) (i : ℕ) (e : Entry) → Ok e ≡ traced es i → first_where p (take i es) ≡ None → p e ≡ true → Some i ≡ first_where p es
-first_here p es i e t h f = let r = traced_ok es i e t in sym (here p es i e r.0 h (ap p r.1 ∙ f))
-
-pub first_none : (p : Entry → Bool) (es : List Entry) (i : ℕ) (u : NoEntry) → Err u ≡ traced es i → first_where p (take i es) ≡ None → None ≡ first_where p es
-first_none p es i u t h = sym (subst (λ (l : List Entry). first_where p l ≡ None) (take_all i es (traced_err es i u t)) h)
+    go : (b : Bool) → cond (ltb place count) (Some place) None ≡ first_where p es → cond (ltb (cond (not b) (1 + place) 0) (suc count)) (Some (cond (not b) (1 + place) 0)) None ≡ cond b (Some 0) (tell suc (first_where p es))
+    go true r = ap (λ c. cond c (Some 0) None) (lt-ltb 0 (suc count) (omega arith))
+    go false r = step (1 + place) place count (omega arith) ∙ ap (tell suc) r

@@ -1,6 +1,9 @@
 -- The order of IRIs by their bytes.
-use Rattle.std.proofs.Common.{◌≡◌, ℕ, ◌+◌, ◌<◌, ◌≤◌, Bool, true, false, cond, eqb, ltb, ◌⊎◌, List, [], ◌∷◌, length, get_or, drop, sym, refl, ap, ◌∙◌, ap₂, inl, inr, arith, length-drop, ltb-false, ltb-true, le-ltb, lt-ltb, eq-eqb, ne_eqb, eqb-true}
-use Rattle.std.proofs.lemmas.List.{drop_more}
+use Rattle.std.proofs.Common.{◌≡◌, ℕ, Bool, true, false, cond, eqb, ltb, List, [], ◌∷◌, Some, sym, refl, ap, ◌∙◌, ap₂, arith, ltb-false, ltb-true, lt-ltb, eq-eqb, ne_eqb, eqb-true}
+use Rattle.std.proofs.lemmas.Cmp.{same_from_slice_cmp_tested}
+use Rattle.std.proofs.lemmas.Bool.Decides.{nat_tests}
+use Rattle.std.specs.Cmp.Lexicographic.{slice_partial_cmp}
+use Rattle.std.specs.Ordering.{nat_cmp, is_lt, is_some_and}
 use borrow.Author.Tests.{eqb-false}
 use Rattle.needs.specs.Needs.{before}
 use Rattle.needs.specs.Needs as goal
@@ -60,18 +63,5 @@ neither-equal (x ∷ xs) (y ∷ ys) e f = go (eqb x y) refl (λ a b. neither-equ
 
 -- ---- comparing
 
-pub begin_same : (a b : List ℕ) (i : ℕ) → i < length a → i < length b → get_or a i 0 ≡ get_or b i 0 → before (drop i a) (drop i b) ≡ before (drop (i + 1) a) (drop (i + 1) b)
-begin_same a b i ha hb e = ap₂ before (drop_more a i 0 ha) (drop_more b i 0 hb) ∙ same_first (get_or a i 0) (get_or b i 0) (drop (i + 1) a) (drop (i + 1) b) e
-
-pub begin_other : (a b : List ℕ) (i : ℕ) → i < length a → i < length b → (get_or a i 0 ≡ get_or b i 0 → ⊥) → before (drop i a) (drop i b) ≡ ltb (get_or a i 0) (get_or b i 0)
-begin_other a b i ha hb e = ap₂ before (drop_more a i 0 ha) (drop_more b i 0 hb) ∙ other_first (get_or a i 0) (get_or b i 0) (drop (i + 1) a) (drop (i + 1) b) e
-
--- one of them is at its end
-pub begin_end : (a b : List ℕ) (i : ℕ) → i ≤ length a → i ≤ length b → (length a ≤ i) ⊎ (length b ≤ i) → before (drop i a) (drop i b) ≡ ltb (length a) (length b)
-begin_end a b i ha hb h = go (drop i a) refl (drop i b) refl
-  where
-    go : (x : List ℕ) → drop i a ≡ x → (y : List ℕ) → drop i b ≡ y → before x y ≡ ltb (length a) (length b)
-    go [] e [] f = sym (le-ltb _ _ (omega (arith, ap length e, ap length f, length-drop i a, length-drop i b, ha, hb)))
-    go [] e (y ∷ ys) f = sym (lt-ltb _ _ (omega (arith, ap length e, ap length f, length-drop i a, length-drop i b, ha, hb)))
-    go (x ∷ xs) e [] f = sym (le-ltb _ _ (omega (arith, ap length e, ap length f, length-drop i a, length-drop i b, ha, hb)))
-    go (x ∷ xs) e (y ∷ ys) f = elim h [ inl k ↦ absurd (omega (arith, k, ap length e, length-drop i a)) | inr k ↦ absurd (omega (arith, k, ap length f, length-drop i b)) ]
+pub is_before : (x y : List ℕ) (r : Bool) → r ≡ is_some_and is_lt (slice_partial_cmp (λ a b. Some (nat_cmp a b)) x y) → r ≡ before x y
+is_before = same_from_slice_cmp_tested nat_cmp is_lt before refl (λ _ _. refl) (λ _ _. refl) (λ x y xs ys o h. grind (arith, nat_tests))

@@ -2,8 +2,8 @@
 use Rattle.std.specs.Prelude.{◌≡◌, ℕ, suc, ◌<◌, ◌≤◌, Bool, true, false, cond, not, ◌&&◌, List, [], ◌∷◌, length, is_some, Some, None, Option, ◌==◌, nat_lt, slice_index_or}
 use Rattle.terms.specs.Terms.{Term}
 use Rattle.lexicon.specs.Numbering.{tell, term_at}
-use Rattle.store.specs.declared.record.Mark.{Mark}
-use Rattle.store.specs.declared.record.Mark.TheVariants.{Found, Absent, Broken, Unfit}
+use Rattle.shelf.specs.declared.items.Mark.{Mark}
+use Rattle.shelf.specs.declared.items.Mark.TheVariants.{Found, Absent, Broken, Unfit}
 use Rattle.store.specs.declared.record.Entry.{Entry}
 use Rattle.store.specs.State.{State}
 use Rattle.store.specs.Looking.{address_of}

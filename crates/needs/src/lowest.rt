@@ -2,25 +2,12 @@
 ghost use Rattle.std.specs.Prelude.{◌≡◌, is_some};
 ghost use Rattle.lexicon.specs.Numbering.{term_at};
 ghost use Rattle.store.specs.Looking.{address_of};
-ghost use Rattle.needs.specs.Needs.{before, lower, lower_of, missing, Lowest};
+ghost use Rattle.needs.specs.Needs.{lower, lower_of, missing, Lowest};
 ghost use Rattle.store.specs.View.{view};
 
 use crate::places::{entry_of, is_wanted};
 use store::Store;
 use terms::Kind;
-
-fn is_before(a: &[u8], b: &[u8]) -> bool
-    ensures { result ≡ before a.now b.now }
-{
-    let mut place = 0;
-    while place < a.len() && place < b.len() {
-        if a[place] != b[place] {
-            return a[place] < b[place];
-        }
-        place += 1;
-    }
-    a.len() < b.len()
-}
 
 fn is_lower(store: &Store, a: u16, b: u16) -> bool
     ensures { result ≡ lower (term_at (view store.now).terms a) (term_at (view store.now).terms b) }
@@ -31,28 +18,20 @@ fn is_lower(store: &Store, a: u16, b: u16) -> bool
     let Some((_, y)) = store.terms().term(b) else {
         return false;
     };
-    is_before(x, y)
+    x < y
 }
 
 fn is_iri(store: &Store, number: u16) -> bool
     ensures { result ≡ is_some (address_of (term_at (view store.now).terms number)) }
 {
-    let Some((kind, _)) = store.terms().term(number) else {
-        return false;
-    };
-    matches!(kind, Kind::Iri)
+    matches!(store.terms().term(number), Some((Kind::Iri, _)))
 }
 
+#[tactic(auto, unfolding(crate::specs::Needs::missing))]
 fn is_missing(store: &Store, wanted: &[bool], number: u16) -> bool
     ensures { result ≡ missing (view store.now) wanted.now number }
 {
-    if !is_wanted(wanted, number) {
-        return false;
-    }
-    if !is_iri(store, number) {
-        return false;
-    }
-    entry_of(store, number).is_none()
+    is_wanted(wanted, number) && is_iri(store, number) && entry_of(store, number).is_none()
 }
 
 // The lower of two that are missing.

@@ -2,6 +2,8 @@
 use Rattle.std.specs.Prelude.{ℕ, zero, suc, Bool, true, false, cond, not, ◌&&◌, List, [], ◌∷◌, take, drop, ◌==◌, slice_index_or}
 use Rattle.terms.specs.declared.kind.Kind.{Kind}
 use Rattle.terms.specs.declared.kind.Kind.TheVariants.{Iri, Literal}
+use Rattle.shelf.specs.declared.items.Mark.{Mark}
+use Rattle.shelf.specs.declared.items.Mark.TheVariants.{Found, Absent, Broken, Unfit}
 use Rattle.shelf.specs.declared.items.Noted.{Noted}
 use Rattle.shelf.specs.declared.items.Listed.{Listed}
 use Rattle.shelf.specs.declared.shelf.Shelf.{Shelf}
@@ -15,10 +17,17 @@ abbrev pub iri_among : List Kind → ℕ → Bool
 iri_among ks zero = false
 iri_among ks (suc n) = is_iri_kind (slice_index_or ks n Literal)
 
+-- how many triples are kept for an entry
+abbrev pub size : Mark → ℕ
+size (Found n) = n
+size Absent = 0
+size (Broken code place) = 0
+size Unfit = 0
+
 -- what the first entry for a term lists
 abbrev pub listed_in : List Noted → List Listed → ℕ → List Listed
 listed_in [] ts a = []
-listed_in (e ∷ es) ts a = cond (e.iri == a) (take e.count (drop e.first ts)) (listed_in es ts a)
+listed_in (e ∷ es) ts a = cond (e.iri == a) (take (size e.mark) (drop e.first ts)) (listed_in es ts a)
 
 abbrev pub on_shelf : Shelf → ℕ → Bool
 on_shelf s a = iri_among s.kinds.now a

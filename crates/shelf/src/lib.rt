@@ -5,5 +5,5 @@ mod items;
 mod read;
 mod shelf;
 
-pub use items::{Listed, Noted};
+pub use items::{Listed, Mark, Noted};
 pub use shelf::Shelf;

@@ -1,5 +1,5 @@
 -- Triples that are read from a Web and enter one after the other.
-use Rattle.std.proofs.Common.{◌≡◌, ℕ, zero, suc, ◌+◌, ◌-◌, ◌<◌, ◌≤◌, Bool, true, false, cond, ◌&&◌, leb, List, [], ◌∷◌, ◌++◌, map, length, get_or, take, drop, Some, None, Ok, Err, Option, Result, sym, refl, ap, ◌∙◌, subst, ap₂, append_assoc, append-nil, arith, length-append, take-append-drop, length-take, take_all, take_at, le-leb, leb-false, leb-true}
+use Rattle.std.proofs.Common.{◌≡◌, ℕ, zero, suc, ◌+◌, ◌<◌, ◌≤◌, Bool, true, false, cond, ◌&&◌, leb, List, [], ◌∷◌, ◌++◌, map, length, get_or, take, drop, min, is_some, Some, None, Ok, Err, Option, Result, sym, refl, ap, ◌∙◌, subst, ap₂, append_assoc, append-nil, arith, length-append, take-append-drop, length-take, take_all, take_at, le-leb, leb-false, leb-true}
 use lib.ListN.{length-map}
 use Rattle.terms.specs.Terms.{Term}
 use Rattle.terms.specs.declared.kind.Kind.{Kind}
@@ -14,9 +14,9 @@ use Rattle.web.specs.declared.answers.Written.{Written}
 use Rattle.web.specs.declared.answers.Unread.{Unread}
 use Rattle.web.specs.declared.answers.Unread.TheVariants.{NoSuch, TooShort}
 use Rattle.web.specs.Answers.{answer, tells, leaves, written}
-use Rattle.web.specs.Meaning.{Triple, Looked, found, absent, broken, cell, listed, part_of, told, Mark as Cause}
+use Rattle.web.specs.Meaning.{Triple, Looked, found, absent, broken, cell, listed, part_of, told, triples, Mark as Cause}
 use Rattle.std.proofs.lemmas.List.{take_more, map_push}
-use Rattle.store.specs.declared.record.Mark.TheVariants as Mark
+use Rattle.shelf.specs.declared.items.Mark.TheVariants as Mark
 use Rattle.store.specs.declared.record.Entry.{Entry}
 use Rattle.store.specs.State.{State, parts_of, fits, noted, shelved, marked, listed as by_number}
 use Rattle.store.specs.Looking.{Enters, Gathering, Fetched, Copied, address_of}
@@ -64,7 +64,7 @@ listed_at [] i h = absurd (omega arith)
 listed_at (x ∷ xs) zero h = refl
 listed_at (x ∷ xs) (suc i) h = listed_at xs i (omega arith)
 
-pub cell_at : {C : Type 0} (l : Looked C) (xs : List Triple) (i part : ℕ) → l ≡ found xs → i < length xs → cell l i part ≡ part_of part (Some (get_or xs i no_triple))
+cell_at : {C : Type 0} (l : Looked C) (xs : List Triple) (i part : ℕ) → l ≡ found xs → i < length xs → cell l i part ≡ part_of part (Some (get_or xs i no_triple))
 cell_at {C} l xs i part e h = ap (λ (k : Looked C). cell k i part) e ∙ ap (part_of part) (listed_at xs i h)
 
 lawful_at : (xs : List Triple) (i : ℕ) → i < length xs → lawful_triples xs ≡ true → lawful_triple (get_or xs i no_triple) ≡ true
@@ -85,7 +85,7 @@ pub record Short (x : Triple) : Type 0 where
   pub predicate : length x.predicate.bytes ≤ 128
   pub object : length x.object.bytes ≤ 128
 
-pub short_at : (xs : List Triple) (i : ℕ) → i < length xs → lawful_triples xs ≡ true → Short (get_or xs i no_triple)
+short_at : (xs : List Triple) (i : ℕ) → i < length xs → lawful_triples xs ≡ true → Short (get_or xs i no_triple)
 short_at xs i h e =
     let x = get_or xs i no_triple in
     let l = lawful_at xs i h e in
@@ -96,6 +96,21 @@ short_at xs i h e =
       predicate = short_iri x.predicate.bytes (and_right (is_kind_iri x.predicate.kind) _ (and_right (lawful_iri x.subject) (lawful_iri x.predicate) r));
       object = short_bytes x.object.kind x.object.bytes (and_right both (lawful_term x.object) l);
     }
+
+-- what a Web gives of a triple that it lists
+pub record Reads {C : Type 0} (l : Looked C) (xs : List Triple) (i : ℕ) : Type 0 where
+  pub subject : cell l i 1 ≡ Some (get_or xs i no_triple).subject
+  pub predicate : cell l i 2 ≡ Some (get_or xs i no_triple).predicate
+  pub object : cell l i 3 ≡ Some (get_or xs i no_triple).object
+  pub short : Short (get_or xs i no_triple)
+
+pub reads : {C : Type 0} (l : Looked C) (xs : List Triple) (i : ℕ) → lawful_triples (triples l) ≡ true → l ≡ found xs → i < length xs → Reads l xs i
+reads {C} l xs i w e h = record {
+  subject = cell_at l xs i 1 e h;
+  predicate = cell_at l xs i 2 e h;
+  object = cell_at l xs i 3 e h;
+  short = short_at xs i h (ap (λ (k : Looked C). lawful_triples (triples k)) (sym e) ∙ w);
+}
 
 -- ---- lists of triples
 
@@ -264,6 +279,10 @@ gathered_all ts ls xs i us ms h w g =
     let e = g.terms ∙ ap (λ (l : List Triple). enter_all ts (parts_of l)) all in
     (ap within (sym e) ∙ w, e, g.triples ∙ ap (λ (l : List Triple). ls ++ map (by_number us) l) all)
 
+-- no term more was to be had
+pub gathering_none : (ts : List Term) (ls : List Listed) (xs : List Triple) (us : List Term) (ms : List Listed) (r : Option (Unit {0})) → r ≡ None → Gathering ts ls xs false us ms → Gathering ts ls xs (is_some r) us ms
+gathering_none ts ls xs us ms r e g = subst (λ (o : Option (Unit {0})). Gathering ts ls xs (is_some o) us ms) (sym e) g
+
 -- ---- what a lookup answers
 
 pub found_so : {C : Type 0} (l : Looked C) (o : Option ℕ) (n : ℕ) → o ≡ Some n → Ok o ≡ answer l → (xs : List Triple) × (l ≡ found xs) × (n ≡ length xs)
@@ -330,18 +349,17 @@ fetched_broken {C} mk l c code place ts ls e ec ep = record {
 
 -- ---- the address
 
-pub size_whole : (x : List ℕ) (n : ℕ) → n ≡ length x → n < 129 → (n ≤ 129) × (n ≤ length x) × (take n x ≡ take 129 x)
-size_whole x n e h = (omega arith, omega (arith, e), take_all n x (omega (arith, e)) ∙ sym (take_all 129 x (omega (arith, e, h))))
+pub size_min : (x : List ℕ) (n : ℕ) → n ≡ min (length x) 129 → (n ≤ 129) × (n ≤ length x) × (take n x ≡ take 129 x)
+size_min x n e = (omega (arith, e), omega (arith, e), go (leb (length x) 129) refl)
+  where
+    go : (b : Bool) → leb (length x) 129 ≡ b → take n x ≡ take 129 x
+    go true t = let h = leb-true _ _ t in take_all n x (omega (arith, e, h)) ∙ sym (take_all 129 x h)
+    go false t = let h : n ≡ 129 = omega (arith, e, leb-false _ _ t) in ap (λ k. take k x) h
 
-pub size_cut : (x : List ℕ) (n : ℕ) → n ≡ 129 → 129 ≤ length x → (n ≤ 129) × (n ≤ length x) × (take n x ≡ take 129 x)
-size_cut x n e h = (omega (arith, e), omega (arith, e, h), ap (λ k. take k x) e)
-
-pub copied_so : (o : Option Term) (x : List ℕ) (n : ℕ) (front rest : List ℕ) → Some (term Iri x) ≡ o → (n ≤ 129) × (n ≤ length x) × (take n x ≡ take 129 x) → front ≡ take (n - 0) x → Copied (address_of o) (Some n) (front ++ rest)
+pub copied_so : (o : Option Term) (x : List ℕ) (n : ℕ) (front rest : List ℕ) → Some (term Iri x) ≡ o → (n ≤ 129) × (n ≤ length x) × (take n x ≡ take 129 x) → front ≡ take n x → Copied (address_of o) (Some n) (front ++ rest)
 copied_so o x n front rest e h f =
-    let z : n - 0 ≡ n = omega arith in
-    let g : front ≡ take n x = f ∙ ap (λ k. take k x) z in
-    let long : length front ≡ n = ap length g ∙ length-take n x ∙ omega (arith, h.1) in
-    subst (λ (p : Option Term). Copied (address_of p) (Some n) (front ++ rest)) e (n, refl, h.0, take_at front rest n long ∙ g ∙ h.2)
+    let long : length front ≡ n = ap length f ∙ length-take n x ∙ omega (arith, h.1) in
+    subst (λ (p : Option Term). Copied (address_of p) (Some n) (front ++ rest)) e (n, refl, h.0, take_at front rest n long ∙ f ∙ h.2)
 
 -- 129 bytes or more are no IRI, and no Web has anything there
 long_absent : {C : Type 0} (meaning : List ℕ → Looked C) → ((iri : List ℕ) → Lawful iri (meaning iri)) → (x : List ℕ) → 128 < length x → meaning x ≡ absent

@@ -6,10 +6,10 @@ use Rattle.lexicon.specs.Numbering.{number_of, enter_all, within}
 use Rattle.lexicon.proofs.Numbers.{and_left, and_right, number_stays}
 use Rattle.shelf.specs.declared.items.Listed.{Listed}
 use Rattle.web.specs.Meaning.{Triple, Told, found, absent, broken}
-use Rattle.store.specs.declared.record.Mark.{Mark}
-use Rattle.store.specs.declared.record.Mark.TheVariants.{Found, Absent, Broken, Unfit}
+use Rattle.shelf.specs.declared.items.Mark.{Mark}
+use Rattle.shelf.specs.declared.items.Mark.TheVariants.{Found, Absent, Broken, Unfit}
 use Rattle.store.specs.declared.record.Entry.{Entry}
-use Rattle.store.specs.Places.{size}
+use Rattle.shelf.specs.Contexts.{size}
 use Rattle.store.specs.State.{State, parts_of, listed, fits, marked, shelved, noted, total}
 use Rattle.store.specs.Laws as law
 

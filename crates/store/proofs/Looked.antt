@@ -1,5 +1,5 @@
 -- A lookup as a whole.
-use Rattle.std.proofs.Common.{◌≡◌, ℕ, ◌<◌, ◌≤◌, true, false, cond, List, [], ◌∷◌, ◌++◌, length, take, Some, None, Ok, Err, Option, sym, refl, ap, ◌∙◌, ap₂, arith, le-leb}
+use Rattle.std.proofs.Common.{◌≡◌, ℕ, ◌<◌, ◌≤◌, true, false, cond, List, [], ◌∷◌, ◌++◌, length, take, Some, None, Ok, Err, Option, sym, refl, ap, ◌∙◌, arith, le-leb}
 use borrow.Author.Tests.{lt-leb}
 use Rattle.terms.specs.Terms.{Term}
 use Rattle.lexicon.specs.Numbering.{term_at}
@@ -7,12 +7,12 @@ use Rattle.shelf.specs.declared.items.Listed.{Listed}
 use Rattle.shelf.specs.declared.items.Noted.{Noted}
 use Rattle.web.specs.Agreement.{Tells}
 use Rattle.web.specs.Meaning.{Told}
-use Rattle.store.specs.declared.record.Mark.{Mark}
+use Rattle.shelf.specs.declared.items.Mark.{Mark}
 use Rattle.store.specs.declared.record.Entry.{Entry}
 use Rattle.store.specs.declared.refusals.Unlooked.TheVariants.{Full, NoSuch}
-use Rattle.store.specs.Places.{size, entries_of}
+use Rattle.store.specs.Places.{entries_of}
 use Rattle.store.specs.State.{State, noted}
-use Rattle.store.specs.Looking.{address_of, looked_at, answered_at, full, looked, looks, Copied, Recorded}
+use Rattle.store.specs.Looking.{address_of, looked_at, answered_at, full, looked, looks, Copied, Fetched}
 use Rattle.store.proofs.Recording.{entries_behind}
 
 pub full_is : (s : State) → 256 ≤ length s.entries → full s ≡ true
@@ -47,15 +47,15 @@ copied_some (Some x) n out h =
 pub looked_nowhere : (tells : Tells) (n : ℕ) (s : State) (out : List ℕ) → full s ≡ false → Copied (address_of (term_at s.terms n)) None out → (Err NoSuch ≡ looks n s) × (s ≡ looked tells n s)
 looked_nowhere tells n s out e h = looked_free tells n s None e (copied_none (address_of (term_at s.terms n)) out h)
 
-pub looked_there : (tells : Tells) (n : ℕ) (s : State) (x : List ℕ) (t : Told) (ns : List Noted) (ks : List Mark) (us : List Term) (ms : List Listed) (os : List Noted) (js : List Mark) → full s ≡ false → address_of (term_at s.terms n) ≡ Some x → t ≡ tells x → s.entries ≡ entries_of ns ks → length ks ≡ length ns → Recorded t n s.terms s.triples ns ks us ms os js
-    → (Ok tt ≡ looks n s) × (record { terms = us; entries = entries_of os js; triples = ms } ≡ looked tells n s)
-looked_there tells n s x t ns ks us ms os js e f et es pairs r =
+pub looked_there : (tells : Tells) (n : ℕ) (s : State) (x : List ℕ) (t : Told) (ns : List Noted) (m : Mark) (us : List Term) (ms : List Listed) (os : List Noted) (f : ℕ) → full s ≡ false → address_of (term_at s.terms n) ≡ Some x → t ≡ tells x → s.entries ≡ entries_of ns → Fetched t s.terms s.triples m us ms → os ≡ ns ++ record { iri = n; mark = m; first = f } ∷ []
+    → (Ok tt ≡ looks n s) × (record { terms = us; entries = entries_of os; triples = ms } ≡ looked tells n s)
+looked_there tells n s x t ns m us ms os first e f et es r eo =
     let free = looked_free tells n s (Some x) e f in
-    let more : entries_of os js ≡ entries_of ns ks ++ record { iri = n; mark = r.mark } ∷ [] =
-    ap₂ entries_of r.noted_is r.marks_is ∙ entries_behind ns ks (record { iri = n; first = length s.triples; count = size r.mark }) r.mark pairs in (
+    let more : entries_of os ≡ s.entries ++ record { iri = n; mark = m } ∷ [] =
+    ap entries_of eo ∙ entries_behind ns (record { iri = n; mark = m; first = first }) ∙ ap (λ (l : List Entry). l ++ record { iri = n; mark = m } ∷ []) (sym es) in (
       free.0,
-      ap (λ (l : List Entry). record { terms = us; entries = l; triples = ms }) (more ∙ ap (λ (l : List Entry). l ++ record { iri = n; mark = r.mark } ∷ []) (sym es))
-          ∙ r.fetched.kept n s.entries
+      ap (λ (l : List Entry). record { terms = us; entries = l; triples = ms }) more
+          ∙ r.kept n s.entries
           ∙ ap (λ (o : Told). noted o n s) et
           ∙ free.1,
     )

@@ -4,8 +4,8 @@ use Rattle.terms.specs.Terms.{Term}
 use Rattle.lexicon.specs.Numbering.{number_of, within}
 use Rattle.shelf.specs.declared.items.Listed.{Listed}
 use Rattle.web.specs.Meaning.{Triple, Told, found}
-use Rattle.store.specs.declared.record.Mark.{Mark}
-use Rattle.store.specs.declared.record.Mark.TheVariants.{Unfit}
+use Rattle.shelf.specs.declared.items.Mark.{Mark}
+use Rattle.shelf.specs.declared.items.Mark.TheVariants.{Unfit}
 use Rattle.store.specs.State.{State, fresh, fits, noted, listed, total}
 
 -- one entry more, that of the IRI which was looked up

@@ -5,14 +5,13 @@ use Rattle.terms.specs.declared.kind.Kind.{Kind}
 use Rattle.terms.specs.declared.kind.Kind.TheVariants.{Iri, Literal}
 use Rattle.lexicon.specs.Numbering.{enter_all, within, admit, admitted, term_at}
 use Rattle.shelf.specs.declared.items.Listed.{Listed}
-use Rattle.shelf.specs.declared.items.Noted.{Noted}
 use Rattle.web.specs.Meaning.{Triple, Told}
 use Rattle.web.specs.Agreement.{Tells}
-use Rattle.store.specs.declared.record.Mark.{Mark}
+use Rattle.shelf.specs.declared.items.Mark.{Mark}
 use Rattle.store.specs.declared.record.Entry.{Entry}
 use Rattle.store.specs.declared.refusals.Unlooked.{Unlooked}
 use Rattle.store.specs.declared.refusals.Unlooked.TheVariants.{Full, NoSuch}
-use Rattle.store.specs.Places.{size}
+use Rattle.shelf.specs.Contexts.{size}
 use Rattle.store.specs.State.{State, noted, parts_of, listed}
 
 -- the bytes of an IRI; a literal is no address
@@ -65,12 +64,6 @@ pub record Fetched (t : Told) (ts : List Term) (ls : List Listed) (m : Mark) (us
   pub kept : (n : ℕ) (es : List Entry) → ◌≡◌ {A = State} (record { terms = us; entries = es ++ record { iri = n; mark = m } ∷ []; triples = ms }) (noted t n (record { terms = ts; entries = es; triples = ls }))
   pub grows : length ms ≡ length ls + size m
   pub few : length ls ≤ 4096 → length ms ≤ 4096
-
-pub record Recorded (t : Told) (n : ℕ) (ts : List Term) (ls : List Listed) (ns : List Noted) (ks : List Mark) (us : List Term) (ms : List Listed) (os : List Noted) (js : List Mark) : Type 0 where
-  pub mark : Mark
-  pub fetched : Fetched t ts ls mark us ms
-  pub noted_is : os ≡ ns ++ record { iri = n; first = length ls; count = size mark } ∷ []
-  pub marks_is : js ≡ ks ++ mark ∷ []
 
 -- the address was copied. Of a longer one 129 bytes are: that many are no IRI either
 abbrev pub Copied : Option (List ℕ) → Option ℕ → List ℕ → Type 0

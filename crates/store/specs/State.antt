@@ -6,11 +6,11 @@ use Rattle.shelf.specs.declared.items.Listed.{Listed}
 use Rattle.shelf.specs.declared.items.Noted.{Noted}
 use Rattle.store.specs.declared.refusals.TermsUnfit.{TermsUnfit}
 use Rattle.web.specs.Meaning.{Triple, Told, found, absent, broken}
-use Rattle.store.specs.declared.record.Mark.{Mark}
-use Rattle.store.specs.declared.record.Mark.TheVariants.{Found, Absent, Broken, Unfit}
+use Rattle.shelf.specs.declared.items.Mark.{Mark}
+use Rattle.shelf.specs.declared.items.Mark.TheVariants.{Found, Absent, Broken, Unfit}
 use Rattle.store.specs.declared.record.Entry.{Entry}
 use Rattle.store.specs.declared.refusals.NoEntry.{NoEntry}
-use Rattle.store.specs.Places.{size}
+use Rattle.shelf.specs.Contexts.{size}
 
 pub record State : Type 0 where
   -- numbered from 1
@@ -79,7 +79,7 @@ terms_unfit_number = 8
 -- the list of each entry stands behind those of the entries before it
 abbrev pub placed : ℕ → List Entry → List Noted
 placed first [] = []
-placed first (e ∷ es) = record { iri = e.iri; first = first; count = size e.mark } ∷ placed (first + size e.mark) es
+placed first (e ∷ es) = record { iri = e.iri; mark = e.mark; first = first } ∷ placed (first + size e.mark) es
 
 -- how many triples the record says are kept
 abbrev pub total : List Entry → ℕ

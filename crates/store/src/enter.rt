@@ -1,5 +1,6 @@
 // The terms of a question enter.
-ghost use Rattle.std.specs.Prelude.{◌≡◌, ◌≤◌, map, vec_capacity};
+ghost use Rattle.std.specs.Prelude.{◌≡◌, map, is_some};
+ghost use Rattle.room.specs.Items.{items};
 ghost use Rattle.lexicon.specs.Held.{held};
 ghost use Rattle.lexicon.specs.Numbering.{number_of};
 ghost use Rattle.question.specs.Asking.{asked};
@@ -11,6 +12,7 @@ use crate::refusals::TermsUnfit;
 use crate::store::Store;
 use lexicon::Lexicon;
 use question::Question;
+use room::Room;
 
 impl TermsUnfit {
     pub fn number(self) -> u8
@@ -20,28 +22,26 @@ impl TermsUnfit {
     }
 }
 
-fn enter_all(terms: &mut Lexicon, question: &Question) -> bool
-    ensures { Entering (held terms.old) (asked question.now).terms result (held terms.new) }
+// A question tells a term by its place, and not how many it has, so the places are counted here.
+fn enter_all(terms: &mut Lexicon, question: &Question) -> Option<()>
+    ensures { Entering (held terms.old) (asked question.now).terms (is_some result) (held terms.new) }
 {
     let mut place = 0;
     while let Some((kind, bytes)) = question.term(place) {
-        if terms.enter(kind, bytes).is_none() {
-            return false;
-        }
+        terms.enter(kind, bytes)?;
         place += 1;
     }
-    true
+    Some(())
 }
 
-fn number_all(terms: &Lexicon, question: &Question, numbers: &mut Vec<u16>)
-    requires { 2048 ≤ vec_capacity numbers.old }
-    ensures numbers { numbers.new.items ≡ map (number_of (held terms.now)) (asked question.now).terms }
-    ensures room { 2048 ≤ vec_capacity numbers.new }
+// A question has no more terms than there is room for.
+fn number_all(terms: &Lexicon, question: &Question, numbers: &mut Room<u16, 2048>)
+    ensures { items numbers.new ≡ map (number_of (held terms.now)) (asked question.now).terms }
 {
     numbers.clear();
     let mut place = 0;
     while let Some((kind, bytes)) = question.term(place) {
-        numbers.push_reserved(terms.number(kind, bytes));
+        let _ = numbers.push(terms.number(kind, bytes).unwrap_or(0));
         place += 1;
     }
 }
@@ -51,15 +51,15 @@ impl Store {
     pub fn enter_terms(&mut self, question: &Question) -> Result<(), TermsUnfit>
         ensures answer { result ≡ enters (asked question.now).terms (view self.old) }
         ensures after { view self.new ≡ entered (asked question.now).terms (view self.old) }
-        ensures numbers { self.new.numbers.items ≡ numbered (asked question.now).terms (view self.old) self.old.numbers.items }
+        ensures numbers { items self.new.numbers ≡ numbered (asked question.now).terms (view self.old) (items self.old.numbers) }
     {
-        let before = self.terms.count();
-        if enter_all(&mut self.terms, question) {
-            number_all(&self.terms, question, &mut self.numbers);
-            Ok(())
-        } else {
-            self.terms.cut(before);
-            Err(TermsUnfit)
+        let terms = &mut self.documents.terms;
+        let known = terms.count();
+        if enter_all(terms, question).is_none() {
+            terms.cut(known);
+            return Err(TermsUnfit);
         }
+        number_all(terms, question, &mut self.numbers);
+        Ok(())
     }
 }

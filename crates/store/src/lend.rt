@@ -1,5 +1,6 @@
 // What is kept, to read.
 ghost use Rattle.std.specs.Prelude.{◌≡◌, length};
+ghost use Rattle.room.specs.Items.{items};
 ghost use Rattle.store.specs.State.{no_entry_number, placed, traced};
 ghost use Rattle.store.specs.View.{view};
 
@@ -20,19 +21,20 @@ impl NoEntry {
 impl Store {
     // The terms by number.
     pub fn terms(&self) -> &Lexicon
-        ensures { result.now ≡ self.now.terms }
+        ensures { result.now ≡ self.now.documents.terms }
     {
-        &self.terms
+        &self.documents.terms
     }
 
     // The lists that were found, one behind the other.
     pub fn triples(&self) -> &[Listed]
         ensures { result.now ≡ (view self.now).triples }
     {
-        self.triples.as_slice()
+        self.documents.triples.as_slice()
     }
 
     // Where the list of each entry of the record stands among the triples.
+    #[tactic(auto, using(crate::proofs::Recording::view_placed))]
     pub fn noted(&self) -> &[Noted]
         ensures { result.now ≡ placed 0 (view self.now).entries }
     {
@@ -41,12 +43,13 @@ impl Store {
 
     // The numbers of the terms of the question that entered last, by their place in its text.
     pub fn numbers(&self) -> &[u16]
-        ensures { result.now ≡ self.now.numbers.items }
+        ensures { result.now ≡ items self.now.numbers }
     {
         self.numbers.as_slice()
     }
 
     // How many IRIs were looked up.
+    #[tactic(auto, using(crate::proofs::Recording::view_count))]
     pub fn recorded(&self) -> usize
         ensures { result ≡ length (view self.now).entries }
     {
@@ -57,13 +60,12 @@ impl Store {
     pub fn trace(&self, place: usize) -> Result<Entry, NoEntry>
         ensures { result ≡ traced (view self.now).entries place }
     {
-        if place < self.noted.len() {
-            Ok(Entry {
-                iri: self.noted[place].iri,
-                mark: self.marks[place],
-            })
-        } else {
-            Err(NoEntry)
+        match self.noted.as_slice().get(place) {
+            Some(noted) => Ok(Entry {
+                iri: noted.iri,
+                mark: noted.mark,
+            }),
+            None => Err(NoEntry),
         }
     }
 }

@@ -1,6 +1,7 @@
 // What a session keeps: terms by number, a record of the IRIs that were looked up, and the triples of the documents that were found.
 #![tactic(auto)]
 
+mod documents;
 mod enter;
 mod laws;
 mod lend;
@@ -11,6 +12,7 @@ mod refusals;
 mod store;
 
 pub use laws::keeping_is_lawful;
-pub use record::{Entry, Mark};
+pub use record::Entry;
 pub use refusals::{NoEntry, TermsUnfit, Unlooked};
+pub use shelf::Mark;
 pub use store::Store;

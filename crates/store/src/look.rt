@@ -1,18 +1,19 @@
 // What a lookup adds to what is kept.
-ghost use Rattle.std.specs.Prelude.{◌≡◌, ◌+◌, ◌<◌, ◌≤◌, List, length, Some, vec_len, vec_capacity};
+ghost use Rattle.std.specs.Prelude.{◌≡◌, ◌+◌, ◌≤◌, List, length, is_some, Some};
+ghost use Rattle.room.specs.Items.{items};
 ghost use Rattle.terms.specs.Terms.{Term};
 ghost use Rattle.lexicon.specs.Held.{held};
 ghost use Rattle.lexicon.specs.Numbering.{term_at};
 ghost use Rattle.web.specs.Agreement.{tells_of};
 ghost use Rattle.web.specs.Meaning.{Triple, cell, found, told};
-ghost use Rattle.store.specs.Looking.{address_of, looked, looks, unlooked_number, Copied, Enters, Fetched, Gathering, Recorded};
+ghost use Rattle.store.specs.Looking.{address_of, looked, looks, unlooked_number, Copied, Enters, Fetched, Gathering};
 ghost use Rattle.store.specs.View.{view};
 
-use crate::record::Mark;
+use crate::documents::Documents;
 use crate::refusals::Unlooked;
 use crate::store::Store;
 use lexicon::Lexicon;
-use shelf::{Listed, Noted};
+use shelf::{Listed, Mark, Noted};
 use terms::Kind;
 use web::{Cause, Web};
 
@@ -20,10 +21,7 @@ impl Unlooked {
     pub fn number(self) -> u8
         ensures { result ≡ unlooked_number self }
     {
-        match self {
-            Unlooked::Full => 9,
-            Unlooked::NoSuch => 14,
-        }
+        self as u8
     }
 }
 
@@ -47,104 +45,64 @@ fn enter_part<W: Web>(
     }
 }
 
-// The triples of a list enter in order, until one does not fit.
-fn gather<W: Web>(
-    web: &W,
-    iri: &[u8],
-    count: usize,
-    terms: &mut Lexicon,
-    triples: &mut Vec<Listed>,
-) -> bool
-    requires { vec_len triples.old + count ≤ vec_capacity triples.old }
-    ensures gathers { (xs : List Triple) → W.Web.meaning web.now iri.now ≡ found xs → count ≡ length xs → Gathering (held terms.old) triples.old.items xs result (held terms.new) triples.new.items }
-    ensures room { vec_capacity triples.new ≡ vec_capacity triples.old }
-{
-    for place in 0..count {
-        let Some(subject) = enter_part(web, iri, place, 1, terms) else {
-            return false;
-        };
-        let Some(predicate) = enter_part(web, iri, place, 2, terms) else {
-            return false;
-        };
-        let Some(object) = enter_part(web, iri, place, 3, terms) else {
-            return false;
-        };
-        triples.push_reserved(Listed {
-            subject,
-            predicate,
-            object,
-        });
-    }
-    true
-}
-
-// Looks an IRI up, and keeps what its document lists if all of it fits.
-fn fetch<W: Web>(web: &W, iri: &[u8], terms: &mut Lexicon, triples: &mut Vec<Listed>) -> Mark
-    requires { (vec_len triples.old ≤ 4096) × (4096 ≤ vec_capacity triples.old) }
-    ensures fetched { Fetched (told W.Cause.mark (W.Web.meaning web.now iri.now)) (held terms.old) triples.old.items result (held terms.new) triples.new.items }
-    ensures room { vec_capacity triples.new ≡ vec_capacity triples.old }
-{
-    match web.lookup(iri) {
-        Ok(Some(count)) => {
-            let known = terms.count();
-            let first = triples.len();
-            if count > 4096 - first {
-                return Mark::Unfit;
-            }
-            if gather(web, iri, count, terms, triples) {
-                return Mark::Found(count);
-            }
-            terms.cut(known);
-            triples.truncate(first);
-            Mark::Unfit
+impl Documents {
+    // The triples of a list enter in order, until one does not fit.
+    fn gather<W: Web>(&mut self, web: &W, iri: &[u8], count: usize) -> Option<()>
+        requires { length (items self.old.triples) + count ≤ 4096 }
+        ensures { (xs : List Triple) → W.Web.meaning web.now iri.now ≡ found xs → count ≡ length xs → Gathering (held self.old.terms) (items self.old.triples) xs (is_some result) (held self.new.terms) (items self.new.triples) }
+    {
+        for place in 0..count {
+            let subject = enter_part(web, iri, place, 1, &mut self.terms)?;
+            let predicate = enter_part(web, iri, place, 2, &mut self.terms)?;
+            let object = enter_part(web, iri, place, 3, &mut self.terms)?;
+            let _ = self.triples.push(Listed {
+                subject,
+                predicate,
+                object,
+            });
         }
-        Ok(None) => Mark::Absent,
-        Err(cause) => Mark::Broken(cause.code(), cause.place()),
+        Some(())
+    }
+
+    // Looks an IRI up, and keeps what its document lists if all of it fits.
+    fn fetch<W: Web>(&mut self, web: &W, iri: &[u8]) -> Mark
+        ensures { Fetched (told W.Cause.mark (W.Web.meaning web.now iri.now)) (held self.old.terms) (items self.old.triples) result (held self.new.terms) (items self.new.triples) }
+    {
+        match web.lookup(iri) {
+            Ok(Some(count)) => {
+                if count > self.triples.free() {
+                    return Mark::Unfit;
+                }
+                let known = self.terms.count();
+                let first = self.triples.len();
+                if self.gather(web, iri, count).is_some() {
+                    return Mark::Found(count);
+                }
+                self.terms.cut(known);
+                self.triples.truncate(first);
+                Mark::Unfit
+            }
+            Ok(None) => Mark::Absent,
+            Err(cause) => Mark::Broken(cause.code(), cause.place()),
+        }
     }
 }
 
-// Copies the bytes of an IRI. More than 128 are no IRI, and 129 show it.
+// Copies the bytes of an IRI, since terms enter while it is in use. Nothing is allocated, so there is a buffer with its length. More than 128 bytes are no
+// IRI, and 129 show it.
 fn address(terms: &Lexicon, iri: u16, out: &mut [u8]) -> Option<usize>
     requires { 129 ≤ length out.old }
     ensures { Copied (address_of (term_at (held terms.now) iri)) result out.new }
 {
-    let Some((kind, bytes)) = terms.term(iri) else {
-        return None;
-    };
+    let (kind, bytes) = terms.term(iri)?;
     match kind {
         Kind::Iri => {
-            let size = if bytes.len() < 129 { bytes.len() } else { 129 };
-            out[0..size].copy_from_slice(&bytes[0..size]);
+            let size = bytes.len().min(129);
+            out[..size].copy_from_slice(&bytes[..size]);
             Some(size)
         }
         Kind::Literal => None,
     }
-}
-
-// Looks an IRI up that stands at this address, and puts it into the record.
-fn note<W: Web>(
-    web: &W,
-    address: &[u8],
-    iri: u16,
-    terms: &mut Lexicon,
-    triples: &mut Vec<Listed>,
-    noted: &mut Vec<Noted>,
-    marks: &mut Vec<Mark>,
-)
-    requires { (vec_len triples.old ≤ 4096) × ((4096 ≤ vec_capacity triples.old) × ((vec_len noted.old < vec_capacity noted.old) × (vec_len marks.old < vec_capacity marks.old))) }
-    ensures recorded { Recorded (told W.Cause.mark (W.Web.meaning web.now address.now)) iri (held terms.old) triples.old.items noted.old.items marks.old.items (held terms.new) triples.new.items noted.new.items marks.new.items }
-    ensures triples_room { vec_capacity triples.new ≡ vec_capacity triples.old }
-    ensures noted_room { vec_capacity noted.new ≡ vec_capacity noted.old }
-    ensures marks_room { vec_capacity marks.new ≡ vec_capacity marks.old }
-{
-    let first = triples.len();
-    let mark = fetch(web, address, terms, triples);
-    noted.push_reserved(Noted {
-        iri,
-        first,
-        count: triples.len() - first,
-    });
-    marks.push_reserved(mark);
 }
 
 impl Store {
@@ -154,22 +112,16 @@ impl Store {
         ensures after { view self.new ≡ looked (tells_of W.Cause.mark W.Web.meaning web.now) iri (view self.old) }
         ensures numbers { self.new.numbers ≡ self.old.numbers }
     {
-        if self.noted.len() >= 256 {
+        if self.noted.is_full() {
             return Err(Unlooked::Full);
         }
         let mut copy = [0u8; 129];
-        let Some(size) = address(&self.terms, iri, &mut copy) else {
+        let Some(size) = address(&self.documents.terms, iri, &mut copy) else {
             return Err(Unlooked::NoSuch);
         };
-        note(
-            web,
-            &copy[0..size],
-            iri,
-            &mut self.terms,
-            &mut self.triples,
-            &mut self.noted,
-            &mut self.marks,
-        );
+        let first = self.documents.triples.len();
+        let mark = self.documents.fetch(web, &copy[..size]);
+        let _ = self.noted.push(Noted { iri, mark, first });
         Ok(())
     }
 }

@@ -3,8 +3,10 @@ ghost use Rattle.std.specs.Prelude.{◌≡◌, IfOk};
 ghost use Rattle.store.specs.State.{fresh};
 ghost use Rattle.store.specs.View.{view};
 
+use crate::documents::Documents;
 use crate::store::Store;
 use lexicon::Lexicon;
+use room::Room;
 use std::alloc::{AllocError, Global};
 
 impl Store {
@@ -12,17 +14,13 @@ impl Store {
     pub fn new(heap: Global) -> Result<Store, AllocError>
         ensures { IfOk result (λ s. view s ≡ fresh) }
     {
-        let terms = Lexicon::reserve(heap)?;
-        let triples = Vec::with_capacity(heap, 4096)?;
-        let noted = Vec::with_capacity(heap, 256)?;
-        let marks = Vec::with_capacity(heap, 256)?;
-        let numbers = Vec::with_capacity(heap, 2048)?;
         Ok(Store {
-            terms,
-            triples,
-            noted,
-            marks,
-            numbers,
+            documents: Documents {
+                terms: Lexicon::reserve(heap)?,
+                triples: Room::reserve(heap)?,
+            },
+            noted: Room::reserve(heap)?,
+            numbers: Room::reserve(heap)?,
         })
     }
 }

@@ -8,11 +8,11 @@ pub struct TermsUnfit;
 #[derive(Clone, Copy)]
 pub struct NoEntry;
 
-// Why an IRI was not looked up.
+// Why an IRI was not looked up, by number.
 #[derive(Clone, Copy)]
 pub enum Unlooked {
     // The record is full.
-    Full,
+    Full = 9,
     // No IRI has this number.
-    NoSuch,
+    NoSuch = 14,
 }

@@ -14,7 +14,7 @@ loop-place-init c = lowest_start (view c.args.store.now) c.args.wanted.now
 pub overflow_cast-number : goal.overflow_cast-number
 overflow_cast-number c =
     let l = c.terms.result.now in
-    omega (arith, c.loop-place-test.true, c.count-place-end.ensures, held_count l, l.few)
+    omega (arith, c.loop-place-test.true, c.count-place-end.ensures, held_count l, l.kinds.few)
 
 pub loop-place-preserved : goal.loop-place-preserved
 loop-place-preserved c =
