@@ -2,14 +2,13 @@
 use Rattle.std.proofs.Common.{◌≡◌, ℕ, suc, ◌+◌, ◌-◌, ◌<◌, ◌≤◌, Bool, true, false, cond, not, eqb, ◌⊎◌, List, [], ◌∷◌, ◌++◌, length, get_or, take, drop, sym, refl, ap, ◌∙◌, ap₂, inl, inr, arith, eqb-true}
 use Rattle.std.proofs.lemmas.Bool.{cases_lt}
 use Rattle.std.proofs.lemmas.List.{drop_all, drop_more, take_all, take-append-drop, take_rest, length-drop}
-use Rattle.lines.specs.declared.runs.Class.TheVariants.{Line}
 use Rattle.lines.specs.Lines.{lines, onto}
-use Rattle.lines.specs.Runs.{differs, front, passes}
+use Rattle.lines.specs.Runs.{differs, front}
 use Rattle.lines.specs.Steps.{Taken}
 use Rattle.lines.proofs.Fronts.{front_ends, front_part}
 
 abbrev pub line : List ℕ → List ℕ
-line bs = front (passes Line) bs
+line bs = front (differs 10) bs
 
 pub lines_cons : (b : ℕ) (bs : List ℕ) → lines (b ∷ bs) ≡ cond (eqb b 10) ([] ∷ lines bs) (onto b (lines bs))
 unfolding lines
@@ -54,7 +53,7 @@ line_taken n bs k m h e w f g = go (cases_lt k (length bs))
     taken : (bs ≡ take (k - 0) bs ++ (10 ∷ take (length bs - m) (drop m bs))) ⊎ ((bs ≡ take (k - 0) bs) × (take (length bs - m) (drop m bs) ≡ [])) → drop m bs ≡ drop (length (line bs) + 1) bs → 0 < m → Taken n bs (take (k - 0) bs) (n + 1) (n + 1) (take (length bs - m) (drop m bs))
     taken parts d p = record {
       split = parts;
-      first = lines_first bs h ∙ ap₂ (λ l r. l ∷ lines r) (sym (front_part (passes Line) bs k e)) (sym d ∙ sym (take_rest bs m));
+      first = lines_first bs h ∙ ap₂ (λ l r. l ∷ lines r) (sym (front_part (differs 10) bs k e)) (sym d ∙ sym (take_rest bs m));
       count = refl;
       next = refl;
       less = omega (arith, ap length (take_rest bs m), length-drop m bs);
@@ -64,7 +63,7 @@ line_taken n bs k m h e w f g = go (cases_lt k (length bs))
     zero_less = omega arith
 
     ended_by : k < length bs → get_or bs k 0 ≡ 10
-    ended_by l = differs_not 10 (get_or bs k 0) (ap (λ i. differs 10 (get_or bs i 0)) e ∙ front_ends (passes Line) bs (omega arith))
+    ended_by l = differs_not 10 (get_or bs k 0) (ap (λ i. differs 10 (get_or bs i 0)) e ∙ front_ends (differs 10) bs (omega arith))
 
     parted : k < length bs → bs ≡ take (k - 0) bs ++ (10 ∷ take (length bs - m) (drop m bs))
     parted l =

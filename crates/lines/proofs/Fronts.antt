@@ -1,22 +1,18 @@
 -- Runs of bytes.
-use Rattle.std.proofs.Common.{◌≡◌, ℕ, zero, suc, ◌+◌, ◌-◌, ◌<◌, ◌≤◌, Bool, true, false, cond, ◌&&◌, List, [], ◌∷◌, length, get_or, take, drop, sym, refl, ap, ◌∙◌, arith}
+use Rattle.std.proofs.Common.{◌≡◌, ℕ, zero, suc, ◌+◌, ◌-◌, ◌<◌, ◌≤◌, Bool, true, false, cond, ◌&&◌, List, [], ◌∷◌, length, get_or, take, take_while, drop, sym, refl, ap, ◌∙◌, arith}
 use Rattle.std.proofs.lemmas.List.{drop_all, drop_more, drop-drop, length-drop, take_rest}
+use Rattle.std.proofs.lemmas.List.Sums.{take_while-cons}
 use Rattle.terms.specs.Lawful.{every}
 use Rattle.lines.specs.Runs.{front}
 
--- a run goes on while its bytes pass, and stops at the first that does not, or at the end
-pub front_more : (p : ℕ → Bool) (bs : List ℕ) (i : ℕ) → i < length bs → p (get_or bs i 0) ≡ true → i + length (front p (drop i bs)) ≡ i + 1 + length (front p (drop (i + 1) bs))
-front_more p bs i h e =
-    let s : length (front p (drop i bs)) ≡ suc (length (front p (drop (i + 1) bs))) = ap (λ r. length (front p r)) (drop_more bs i 0 h) ∙ ap (λ t. length (cond t (get_or bs i 0 ∷ front p (drop (i + 1) bs)) [])) e in
-    omega arith
-
-pub front_stops : (p : ℕ → Bool) (bs : List ℕ) (i : ℕ) → i < length bs → p (get_or bs i 0) ≡ false → i ≡ i + length (front p (drop i bs))
-front_stops p bs i h e =
-    let s : length (front p (drop i bs)) ≡ 0 = ap (λ r. length (front p r)) (drop_more bs i 0 h) ∙ ap (λ t. length (cond t (get_or bs i 0 ∷ front p (drop (i + 1) bs)) [])) e in
-    omega arith
-
-pub front_past : (p : ℕ → Bool) (bs : List ℕ) (i : ℕ) → length bs ≤ i → i ≡ i + length (front p (drop i bs))
-front_past p bs i h = let s : length (front p (drop i bs)) ≡ 0 = ap (λ r. length (front p r)) (drop_all i bs h) in omega arith
+-- what the library takes while a test passes is such a run
+pub taken : (p : ℕ → Bool) (bs : List ℕ) → length (take_while p bs) ≡ length (front p bs)
+taken p [] = refl
+taken p (b ∷ bs) = ap length (take_while-cons p b bs) ∙ more (p b) (taken p bs)
+  where
+    more : (t : Bool) → length (take_while p bs) ≡ length (front p bs) → length (cond t (b ∷ take_while p bs) []) ≡ length (cond t (b ∷ front p bs) [])
+    more true e = ap suc e
+    more false e = refl
 
 pub front_fits : (p : ℕ → Bool) (bs : List ℕ) → length (front p bs) ≤ length bs
 front_fits p [] = omega arith

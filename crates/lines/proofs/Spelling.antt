@@ -3,11 +3,12 @@ use Rattle.std.proofs.Common.{◌≡◌, ℕ, Bool, true, false, cond, ◌&&◌,
 use Rattle.std.proofs.lemmas.List.{append-nil, take-append-drop, drop_at}
 use Rattle.terms.specs.Bytes.{iri_byte, literal_byte}
 use Rattle.terms.specs.Lawful.{every, is_iri, lawful_bytes}
+use Rattle.terms.specs.Marks as mark
 use Rattle.terms.specs.declared.kind.Kind.{Kind}
 use Rattle.terms.specs.declared.kind.Kind.TheVariants.{Iri, Literal}
 use Rattle.web.specs.Laws.{lawful_triple, lawful_iri, is_kind_iri}
 use Rattle.web.specs.Meaning.{Triple}
-use Rattle.lines.specs.Readings.{nothing, opens, says, and_then, behind, Cut, opener, closer, closed, marked, named, object_kind, ended, opening, triple, statement, or_opens, or_states}
+use Rattle.lines.specs.Readings.{nothing, opens, says, and_then, behind, Cut, closed, marked, named, object_kind, ended, opening, triple, statement, or_opens, or_states}
 use Rattle.lines.specs.Runs.{front, term_byte}
 use Rattle.lines.specs.Parts.{some_same, then_inv, marked_inv, named_inv, statement_inv, statement_lawful, ended_inv}
 use Rattle.lines.specs.Spelled.{in_marks, spelled, opening_line, NothingWhenEmpty, OpensAsSpelled, StatesAsSpelled}
@@ -53,7 +54,7 @@ lawful_every Iri x e = and_right (leb 1 (length x) && leb (length x) 128) (every
 lawful_every Literal x e = and_right (leb (length x) 128) (every literal_byte x) e
 
 -- no term holds its last mark
-closer_stops : (kind : Kind) → term_byte kind (closer kind) ≡ false
+closer_stops : (kind : Kind) → term_byte kind (mark.closing kind) ≡ false
 closer_stops Iri = refl
 closer_stops Literal = refl
 
@@ -62,20 +63,20 @@ marked_spelled kind line c e =
     let m = marked_inv kind line c e in
     let x = c.bytes in
     let taken : take (length x) m.inner ≡ x = ap (λ y. take (length y) m.inner) m.run ∙ front_take (term_byte kind) m.inner ∙ sym m.run in
-    let split : m.inner ≡ x ++ (closer kind ∷ c.rest) = sym (take-append-drop (length x) m.inner) ∙ ap₂ (λ y z. y ++ z) taken (behind_inv (closer kind ∷ []) (drop (length x) m.inner) c.rest m.closes) in (
-      behind_inv (opener kind ∷ []) line m.inner m.opened ∙ ap (λ y. opener kind ∷ y) (split ∙ sym (append_assoc x (closer kind ∷ []) c.rest)),
+    let split : m.inner ≡ x ++ (mark.closing kind ∷ c.rest) = sym (take-append-drop (length x) m.inner) ∙ ap₂ (λ y z. y ++ z) taken (behind_inv (mark.closing kind ∷ []) (drop (length x) m.inner) c.rest m.closes) in (
+      behind_inv (mark.opening kind ∷ []) line m.inner m.opened ∙ ap (λ y. mark.opening kind ∷ y) (split ∙ sym (append_assoc x (mark.closing kind ∷ []) c.rest)),
       m.lawful,
     )
 
 pub spelled_marked : (kind : Kind) (x r : List ℕ) → lawful_bytes kind x ≡ true → marked kind (in_marks kind x ++ r) ≡ Some (record { bytes = x; rest = r })
 spelled_marked kind x r e =
-    let inner : List ℕ = x ++ (closer kind ∷ r) in
-    let front-is : front (term_byte kind) inner ≡ x = front_whole (term_byte kind) x (closer kind) r (lawful_every kind x e) (closer_stops kind) in
+    let inner : List ℕ = x ++ (mark.closing kind ∷ r) in
+    let front-is : front (term_byte kind) inner ≡ x = front_whole (term_byte kind) x (mark.closing kind) r (lawful_every kind x e) (closer_stops kind) in
     then_some (λ bs. closed kind (front (term_byte kind) bs) bs) inner
-    (ap (behind (opener kind ∷ [])) (ap (λ y. opener kind ∷ y) (append_assoc x (closer kind ∷ []) r)) ∙ behind_text (opener kind ∷ []) inner)
+    (ap (behind (mark.opening kind ∷ [])) (ap (λ y. mark.opening kind ∷ y) (append_assoc x (mark.closing kind ∷ []) r)) ∙ behind_text (mark.opening kind ∷ []) inner)
     ∙ ap (λ y. closed kind y inner) front-is
-    ∙ ap (λ t. cond t (and_then (behind (closer kind ∷ []) (drop (length x) inner)) (λ q. Some (record { bytes = x; rest = q }))) None) e
-    ∙ then_some (λ q. Some (record { bytes = x; rest = q })) r (ap (behind (closer kind ∷ [])) (drop_at x (closer kind ∷ r) (length x) refl) ∙ behind_text (closer kind ∷ []) r)
+    ∙ ap (λ t. cond t (and_then (behind (mark.closing kind ∷ []) (drop (length x) inner)) (λ q. Some (record { bytes = x; rest = q }))) None) e
+    ∙ then_some (λ q. Some (record { bytes = x; rest = q })) r (ap (behind (mark.closing kind ∷ [])) (drop_at x (mark.closing kind ∷ r) (length x) refl) ∙ behind_text (mark.closing kind ∷ []) r)
 
 -- ---- an IRI and a space
 
@@ -182,7 +183,7 @@ spelled_back t e =
 spelled_no_opening : (t : Triple) → lawful_triple t ≡ true → opening (spelled t) ≡ None
 spelled_no_opening t e = opens_at (spelled t) (go t.subject.kind)
   where
-    go : (k : Kind) → opener k ≡ 64 → ⊥
+    go : (k : Kind) → mark.opening k ≡ 64 → ⊥
     go Iri f = omega arith
     go Literal f = omega arith
 

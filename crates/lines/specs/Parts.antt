@@ -2,11 +2,12 @@
 use Rattle.std.specs.Prelude.{◌≡◌, ℕ, Bool, true, false, cond, ◌&&◌, List, [], ◌∷◌, length, drop, Some, None, codes, Option, refl}
 use Rattle.std.proofs.Common.{sym, ap, ◌∙◌, arith}
 use Rattle.terms.specs.Lawful.{is_iri, lawful_bytes}
+use Rattle.terms.specs.Marks as mark
 use Rattle.terms.specs.declared.kind.Kind.{Kind}
 use Rattle.terms.specs.declared.kind.Kind.TheVariants.{Iri}
 use Rattle.web.specs.Laws.{lawful_triple}
 use Rattle.web.specs.Meaning.{Triple}
-use Rattle.lines.specs.Readings.{and_then, behind, Cut, opener, closer, closed, marked, named, object_kind, ended, triple, statement}
+use Rattle.lines.specs.Readings.{and_then, behind, Cut, closed, marked, named, object_kind, ended, triple, statement}
 use Rattle.lines.specs.Runs.{front, term_byte}
 
 pub some_same : {A : Type 0} {x y : A} → ◌≡◌ {A = Option A} (Some x) (Some y) → x ≡ y
@@ -19,26 +20,26 @@ then_inv (Some x) f y e = (x, refl, e)
 -- what it takes to read a term in its marks
 pub record Marked (kind : Kind) (line : List ℕ) (c : Cut) : Type 0 where
   pub inner : List ℕ
-  pub opened : behind (opener kind ∷ []) line ≡ Some inner
+  pub opened : behind (mark.opening kind ∷ []) line ≡ Some inner
   pub run : c.bytes ≡ front (term_byte kind) inner
   pub lawful : lawful_bytes kind c.bytes ≡ true
-  pub closes : behind (closer kind ∷ []) (drop (length c.bytes) inner) ≡ Some c.rest
+  pub closes : behind (mark.closing kind ∷ []) (drop (length c.bytes) inner) ≡ Some c.rest
 
 closed_inv : (kind : Kind) (x bs : List ℕ) (c : Cut) → closed kind x bs ≡ Some c
-    → (c.bytes ≡ x) × (lawful_bytes kind x ≡ true) × (behind (closer kind ∷ []) (drop (length x) bs) ≡ Some c.rest)
+    → (c.bytes ≡ x) × (lawful_bytes kind x ≡ true) × (behind (mark.closing kind ∷ []) (drop (length x) bs) ≡ Some c.rest)
 closed_inv kind x bs c e = go (lawful_bytes kind x) e
   where
-    go : (t : Bool) → cond t (and_then (behind (closer kind ∷ []) (drop (length x) bs)) (λ r. Some (record { bytes = x; rest = r }))) None ≡ Some c
-        → (c.bytes ≡ x) × (t ≡ true) × (behind (closer kind ∷ []) (drop (length x) bs) ≡ Some c.rest)
+    go : (t : Bool) → cond t (and_then (behind (mark.closing kind ∷ []) (drop (length x) bs)) (λ r. Some (record { bytes = x; rest = r }))) None ≡ Some c
+        → (c.bytes ≡ x) × (t ≡ true) × (behind (mark.closing kind ∷ []) (drop (length x) bs) ≡ Some c.rest)
     go true e =
-        let i = then_inv (behind (closer kind ∷ []) (drop (length x) bs)) (λ r. Some (record { bytes = x; rest = r })) c e in
+        let i = then_inv (behind (mark.closing kind ∷ []) (drop (length x) bs)) (λ r. Some (record { bytes = x; rest = r })) c e in
         let same : record { bytes = x; rest = i.0 } ≡ c = some_same i.2 in
         (sym (ap (λ (d : Cut). d.bytes) same), refl, i.1 ∙ ap (λ (d : Cut). Some d.rest) same)
     go false e = let z : ◌≡◌ {A = ℕ} 0 1 = cc in absurd (omega arith)
 
 pub marked_inv : (kind : Kind) (line : List ℕ) (c : Cut) → marked kind line ≡ Some c → Marked kind line c
 marked_inv kind line c e =
-    let i = then_inv (behind (opener kind ∷ []) line) (λ bs. closed kind (front (term_byte kind) bs) bs) c e in
+    let i = then_inv (behind (mark.opening kind ∷ []) line) (λ bs. closed kind (front (term_byte kind) bs) bs) c e in
     let x = front (term_byte kind) i.0 in
     let j = closed_inv kind x i.0 c i.2 in
     record {
@@ -46,7 +47,7 @@ marked_inv kind line c e =
       opened = i.1;
       run = j.0;
       lawful = ap (lawful_bytes kind) j.0 ∙ j.1;
-      closes = ap (λ y. behind (closer kind ∷ []) (drop (length y) i.0)) j.0 ∙ j.2;
+      closes = ap (λ y. behind (mark.closing kind ∷ []) (drop (length y) i.0)) j.0 ∙ j.2;
     }
 
 -- what it takes to read an IRI and a space

@@ -2,6 +2,7 @@
 -- unreadable. Here a line is read from its front; the laws say the same by how a line is spelled.
 use Rattle.std.specs.Prelude.{ℕ, Bool, false, cond, List, [], ◌∷◌, length, drop, Some, None, codes, Option, ◌==◌}
 use Rattle.terms.specs.Lawful.{lawful_bytes}
+use Rattle.terms.specs.Marks as mark
 use Rattle.terms.specs.Terms.{Term}
 use Rattle.terms.specs.declared.kind.Kind.{Kind}
 use Rattle.terms.specs.declared.kind.Kind.TheVariants.{Iri, Literal}
@@ -36,21 +37,12 @@ pub record Cut : Type 0 where
   pub bytes : List ℕ
   pub rest : List ℕ
 
--- the marks before and behind a term: < > and " "
-abbrev pub opener : Kind → ℕ
-opener Iri = 60
-opener Literal = 34
-
-abbrev pub closer : Kind → ℕ
-closer Iri = 62
-closer Literal = 34
-
 -- x are the bytes of a term, and the first of bs, which stand behind its first mark
 abbrev pub closed : Kind → List ℕ → List ℕ → Option Cut
-closed kind x bs = cond (lawful_bytes kind x) (and_then (behind (closer kind ∷ []) (drop (length x) bs)) (λ r. Some (record { bytes = x; rest = r }))) None
+closed kind x bs = cond (lawful_bytes kind x) (and_then (behind (mark.closing kind ∷ []) (drop (length x) bs)) (λ r. Some (record { bytes = x; rest = r }))) None
 
 abbrev pub marked : Kind → List ℕ → Option Cut
-marked kind line = and_then (behind (opener kind ∷ []) line) (λ bs. closed kind (front (term_byte kind) bs) bs)
+marked kind line = and_then (behind (mark.opening kind ∷ []) line) (λ bs. closed kind (front (term_byte kind) bs) bs)
 
 -- an IRI and a space
 abbrev pub named : List ℕ → Option Cut

@@ -2,13 +2,14 @@
 -- no choice.
 use Rattle.std.specs.Prelude.{◌≡◌, ℕ, true, false, ◌⊎◌, List, [], ◌∷◌, ◌++◌, codes, ◌==◌, ◌≢◌}
 use Rattle.terms.specs.Lawful.{is_iri}
+use Rattle.terms.specs.Marks as mark
 use Rattle.terms.specs.Terms.{Term}
 use Rattle.terms.specs.declared.kind.Kind.{Kind}
 use Rattle.terms.specs.declared.kind.Kind.TheVariants.{Iri}
 use Rattle.web.specs.Laws.{lawful_triple}
 use Rattle.web.specs.Meaning.{Triple}
 use Rattle.lines.specs.Lines.{lines}
-use Rattle.lines.specs.Readings.{opener, closer, nothing, opens, states, says}
+use Rattle.lines.specs.Readings.{nothing, opens, states, says}
 
 -- ---- lines
 
@@ -31,7 +32,7 @@ LaidOnce = (file : List ℕ) (ls : List (List ℕ)) → Laid file ls → ls ≡ 
 -- ---- what a line says
 
 abbrev pub in_marks : Kind → List ℕ → List ℕ
-in_marks kind x = opener kind ∷ (x ++ (closer kind ∷ []))
+in_marks kind x = mark.opening kind ∷ (x ++ (mark.closing kind ∷ []))
 
 -- <IRI> or "literal"
 abbrev pub spelled_term : Term → List ℕ

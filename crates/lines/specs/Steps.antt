@@ -1,6 +1,8 @@
 -- What the cursor and the line reader answer.
-use Rattle.std.specs.Prelude.{◌≡◌, ℕ, ◌+◌, ◌<◌, ◌⊎◌, List, [], ◌∷◌, ◌++◌, length, Some, None, Option}
+use Rattle.std.specs.Prelude.{◌≡◌, ℕ, ◌+◌, ◌<◌, ◌⊎◌, List, [], ◌∷◌, ◌++◌, length, Some, None, Option, MatchOption}
 use Rattle.web.specs.Meaning.{Triple}
+use Rattle.lines.specs.declared.cursor.Line.{Line}
+use Rattle.lines.specs.declared.cursor.Lines.{Lines}
 use Rattle.lines.specs.declared.reader.BadLine.{BadLine}
 use Rattle.lines.specs.declared.reader.Piece.{Piece}
 use Rattle.lines.specs.declared.reader.Reader.{Reader}
@@ -17,6 +19,10 @@ pub record Taken (n : ℕ) (bytes : List ℕ) (line : List ℕ) (number m : ℕ)
   pub count : number ≡ n + 1
   pub next : m ≡ n + 1
   pub less : length rest < length bytes
+
+-- the cursor at s gives a line and comes to t, or stays where there is none
+abbrev pub NextLine : Lines → Option Line → Lines → Type 0
+NextLine s r t = MatchOption r ((s.rest.now ≡ []) × (t ≡ s)) (λ l. Taken s.passed s.rest.now l.bytes.now l.number t.passed t.rest.now)
 
 -- the reader has come so far, in the same line
 abbrev pub Onward : Option (List ℕ) → Reader → Reader → Type 0

@@ -1,11 +1,10 @@
 // The cursor over the lines of a file.
-ghost use Rattle.std.specs.Prelude.{◌≡◌, ◌+◌, ◌^◌, ◌<◌, ◌≤◌, [], length, MatchOption};
+ghost use Rattle.std.specs.Prelude.{◌≡◌, ◌+◌, ◌^◌, ◌<◌, ◌≤◌, length};
+ghost use Rattle.std.specs.Iterator.{at_most};
 ghost use Rattle.terms.specs.Lawful.{every};
-ghost use Rattle.lines.specs.Runs.{front, passes};
-ghost use Rattle.lines.specs.declared.runs.Class.TheVariants.{Line as LineBytes};
-ghost use Rattle.lines.specs.Steps.{Taken};
+ghost use Rattle.lines.specs.Runs.{differs, front};
 
-use crate::runs::{Class, run};
+use crate::runs::run_before;
 
 // A line without what ends it, and its number from 1.
 #[derive(Clone, Copy)]
@@ -19,11 +18,13 @@ pub struct Line<'a> {
 pub struct Lines<'a> {
     pub rest: &'a [u8],
     pub passed: u64,
+    // The number of each further line fits.
+    pub ghost counted: { passed + length rest.now < 2 ^ 64 },
 }
 
 // None of these bytes ends a line. They are all looked at, with no branch, so that many can be compared at once.
 fn unbroken(bytes: &[u8]) -> bool
-    ensures { result ≡ every (passes LineBytes) bytes.now }
+    ensures { result ≡ every (differs 10) bytes.now }
 {
     let mut whole = true;
     for b in bytes {
@@ -34,21 +35,26 @@ fn unbroken(bytes: &[u8]) -> bool
 
 // How many bytes the first line has: by sixteens while none ends it, and then one by one.
 fn line_length(bytes: &[u8]) -> usize
-    ensures longest { result ≡ length (front (passes LineBytes) bytes.now) }
+    ensures longest { result ≡ length (front (differs 10) bytes.now) }
     ensures within { result ≤ length bytes.now }
 {
     let mut start = 0;
     while bytes.len() - start >= 16 && unbroken(&bytes[start..start + 16]) {
         start += 16;
     }
-    start + run(&bytes[start..], Class::Line)
+    start + run_before(&bytes[start..], b'\n')
 }
 
-impl<'a> Lines<'a> {
-    pub fn next_line(&mut self) -> Option<Line<'a>>
-        requires { self.old.passed + length self.old.rest.now < 2 ^ 64 }
-        ensures { MatchOption result ((self.old.rest.now ≡ []) × (self.new ≡ self.old)) (λ l. Taken self.old.passed self.old.rest.now l.bytes.now l.number self.new.passed self.new.rest.now) }
-    {
+impl<'a> Iterator for Lines<'a> {
+    ghost use Rattle.lines.specs.Steps.{NextLine};
+
+    type Item = Line<'a>;
+
+    ghost next_gives = { NextLine };
+
+    ghost remaining = { λ s. at_most (length s.rest.now) };
+
+    fn next(&mut self) -> Option<Line<'a>> {
         if self.rest.is_empty() {
             return None;
         }

@@ -1,10 +1,9 @@
 // The reader of one line, from its front on. What it dislikes goes up by `?` to whoever reads the page.
 ghost use Rattle.std.specs.Prelude.{◌≡◌, [], ◌∷◌, Some, MatchResult};
-ghost use Rattle.lines.specs.Readings.{behind, closer as closes, ended, marked, named as named_by, object_kind, opener as begins};
-ghost use Rattle.lines.specs.Runs.{fitting};
+ghost use Rattle.lines.specs.Readings.{behind, ended, marked, named as named_by, object_kind};
 ghost use Rattle.lines.specs.Steps.{Onward, Past, Stuck};
 
-use crate::runs::{Class, run};
+use crate::runs::term_run;
 use terms::Kind;
 
 // A line that cannot be read.
@@ -55,9 +54,9 @@ impl<'a> Reader<'a> {
     pub fn term(self, kind: Kind) -> Result<Piece<'a>, BadLine>
         ensures { MatchResult result (Past (marked kind self.entry.rest.now) self.entry) (Stuck (marked kind self.entry.rest.now) self.entry) }
     {
-        let inner = self.sign(opener(kind))?;
-        let length = run(inner.rest, Class::Term(kind));
-        if !fits(kind, length) {
+        let inner = self.sign(kind.opening())?;
+        let length = term_run(inner.rest, kind);
+        if !kind.fits(length) {
             return Err(BadLine { line: self.line });
         }
         let (bytes, rest) = inner.rest.split_at(length);
@@ -65,7 +64,7 @@ impl<'a> Reader<'a> {
             rest,
             line: self.line,
         };
-        let behind = last.sign(closer(kind))?;
+        let behind = last.sign(kind.closing())?;
         Ok(Piece { bytes, behind })
     }
 
@@ -98,33 +97,5 @@ impl<'a> Reader<'a> {
             [] => Ok(()),
             _ => Err(BadLine { line: self.line }),
         }
-    }
-}
-
-// The marks of a term, and how many bytes it may have.
-fn opener(kind: Kind) -> u8
-    ensures { result ≡ begins kind }
-{
-    match kind {
-        Kind::Iri => b'<',
-        Kind::Literal => b'"',
-    }
-}
-
-fn closer(kind: Kind) -> u8
-    ensures { result ≡ closes kind }
-{
-    match kind {
-        Kind::Iri => b'>',
-        Kind::Literal => b'"',
-    }
-}
-
-fn fits(kind: Kind, length: usize) -> bool
-    ensures { result ≡ fitting kind length }
-{
-    match kind {
-        Kind::Iri => 1 <= length && length <= 128,
-        Kind::Literal => length <= 128,
     }
 }

@@ -10,7 +10,7 @@ ghost use Rattle.web.specs.Meaning.{absent, broken, listed, triples};
 use crate::cause::PageCause;
 use crate::pages::{Pages, TooLong};
 use crate::scan::{Seen, scan};
-use lines::{Class, Line, Stated, run, statement};
+use lines::{Line, Stated, run_before, statement};
 use terms::{Kind, is_iri};
 use web::{Unread, Web, Written, give};
 
@@ -36,7 +36,7 @@ impl<'a> Pages<'a> {
     fn seen(&self, iri: &[u8], place: usize) -> Result<Option<Seen<'a>>, PageCause>
         ensures { MatchResult result (λ o. MatchOption o (web_meaning self.now.file.now iri.now ≡ absent) (λ s. Holds (web_meaning self.now.file.now iri.now) place s.count s.stating.now)) (λ e. web_meaning self.now.file.now iri.now ≡ broken e) }
     {
-        if self.file.len() > 65536 || !is_iri(iri) {
+        if !is_iri(iri) {
             return Ok(None);
         }
         scan(self.file, address(iri), place)
@@ -63,8 +63,7 @@ impl<'a> Pages<'a> {
 fn address(iri: &[u8]) -> &[u8]
     ensures { result.now ≡ address_of iri.now }
 {
-    let length = run(iri, Class::Address);
-    &iri[0..length]
+    &iri[..run_before(iri, b'#')]
 }
 
 impl Web for Pages<'_> {

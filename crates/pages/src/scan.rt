@@ -1,5 +1,5 @@
 // One way through the file, to the page of an address and past it.
-ghost use Rattle.std.specs.Prelude.{◌≡◌, ◌+◌, ◌^◌, ◌<◌, [], length, Some, None, MatchOption, MatchResult};
+ghost use Rattle.std.specs.Prelude.{◌≡◌, [], Some, None, MatchOption, MatchResult};
 ghost use Rattle.web.specs.Meaning.{absent, broken};
 ghost use Rattle.lines.specs.Lines.{lines as lines_of};
 ghost use Rattle.pages.specs.Pages.{first_fault, lines_on, page_at};
@@ -18,11 +18,10 @@ pub struct Seen<'a> {
 
 // Passes lines until one opens the page of an address.
 fn find<'a>(from: Lines<'a>, address: &[u8]) -> Option<Lines<'a>>
-    requires { from.passed + length from.rest.now < 2 ^ 64 }
     ensures { MatchOption result (lines_on address.now from.entry.passed None (lines_of from.entry.rest.now) ≡ []) (λ l. Opened address.now from.entry.passed from.entry.rest.now l.passed l.rest.now) }
 {
     let mut lines = from;
-    while let Some(line) = lines.next_line() {
+    while let Some(line) = lines.next() {
         if let Ok(opened) = opening(line) {
             if opened == address {
                 return Some(lines);
@@ -34,13 +33,12 @@ fn find<'a>(from: Lines<'a>, address: &[u8]) -> Option<Lines<'a>>
 
 // Passes the lines of a page that is open, until another page is opened.
 fn page<'a>(from: Lines<'a>, address: &[u8], place: usize) -> Result<Seen<'a>, PageCause>
-    requires { from.passed + length from.rest.now < 2 ^ 64 }
     ensures { MatchResult result (λ s. Passed address.now from.entry.passed from.entry.rest.now place s.count s.stating.now None s.behind.passed s.behind.rest.now) (λ e. first_fault (lines_on address.now from.entry.passed (Some address.now) (lines_of from.entry.rest.now)) ≡ Some e) }
 {
     let mut behind = from;
     let mut count = 0;
     let mut stating = from.rest;
-    while let Some(line) = behind.next_line() {
+    while let Some(line) = behind.next() {
         match said(line)? {
             Saying::Nothing => {}
             Saying::States(_) => {

@@ -53,11 +53,11 @@ fn every_page(file: &[u8]) -> Sums {
         bytes: 0,
     };
     if let Ok(pages) = Pages::new(file) {
-        let mut lines = Lines {
+        let lines = Lines {
             rest: file,
             passed: 0,
         };
-        while let Some(line) = lines.next_line() {
+        for line in lines {
             if let Ok(address) = opening(line) {
                 sums = read_all(&pages, address, sums);
             }

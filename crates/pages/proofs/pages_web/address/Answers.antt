@@ -1,7 +1,9 @@
-use Rattle.lines.specs.declared.runs.Class.TheVariants.{Address}
-use Rattle.lines.specs.Runs.{passes}
-use Rattle.lines.proofs.Fronts.{front_part}
+use Rattle.std.proofs.Common.{take, ap, ◌∙◌}
+use Rattle.lines.specs.Runs.{differs}
+use Rattle.lines.proofs.Fronts.{front_take, taken}
 use Rattle.pages.proofs.pages_web.address.Goals as goal
 
 pub returns : goal.returns
-returns c = front_part (passes Address) c.args.iri.now c.run-length.result c.run-length.ensures.longest
+returns c =
+    let bs = c.args.iri.now in
+    ap (λ n. take n bs) (c.run_before.ensures.longest ∙ taken (differs 35) bs) ∙ front_take (differs 35) bs

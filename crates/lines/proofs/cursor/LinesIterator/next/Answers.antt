@@ -1,14 +1,14 @@
 use Rattle.std.proofs.Common.{refl, arith, true-eqb, false-eqb}
 use Rattle.std.proofs.lemmas.List.{nil_from_length}
 use Rattle.lines.proofs.Cutting.{line_taken}
-use Rattle.lines.proofs.cursor.Lines.next_line.Goals as goal
-use Rattle.lines.proofs.cursor.Lines.next_line.Goals.{then-length-rest, else-length-rest}
+use Rattle.lines.proofs.cursor.LinesIterator.next.Goals as goal
+use Rattle.lines.proofs.cursor.LinesIterator.next.Goals.{then-length-rest, else-length-rest}
 
-pub returns-then-is_empty : goal.returns-then-is_empty
-returns-then-is_empty c = (nil_from_length c.args.self.now.rest.now (true-eqb _ _ c.if-is_empty.ensures), refl)
+pub returns-then-is_empty-clause-steps : goal.returns-then-is_empty-clause-steps
+returns-then-is_empty-clause-steps c = (nil_from_length c.args.self.now.rest.now (true-eqb _ _ c.if-is_empty.ensures), refl)
 
-pub returns : goal.returns
-returns c =
+pub returns-clause-steps : goal.returns-clause-steps
+returns-clause-steps c =
     let some = false-eqb _ _ c.if-is_empty.ensures in
     line_taken c.args.self.now.passed c.args.self.now.rest.now c.line_length-length.result c.if-length-rest.next (omega arith) c.line_length-length.ensures.longest c.line_length-length.ensures.within
     (λ h. elim c.if-length-rest.branch [ then-length-rest w ↦ w.next-is | else-length-rest w ↦ absurd (omega arith) ])
