@@ -2,7 +2,6 @@
 #![tactic(auto)]
 
 use std::alloc::{AllocError, Global};
-use terms::Kind;
 use web::{Cause, Web};
 
 // A buffer is filled with this before each read.
@@ -21,17 +20,13 @@ fn write_term<W: Web>(
     out.push(b' ')?;
     match web.read(iri, place, part, &mut buffer) {
         Ok(written) => {
-            let (first, last) = match written.kind {
-                Kind::Iri => (b'<', b'>'),
-                Kind::Literal => (b'"', b'"'),
-            };
-            out.push(first)?;
+            out.push(written.kind.opening())?;
             for (at, b) in buffer.iter().enumerate() {
                 if at < written.length || *b != BLANK {
                     out.push(*b)?;
                 }
             }
-            out.push(last)?;
+            out.push(written.kind.closing())?;
         }
         Err(unread) => write_number(heap, u64::from(unread.number()), out)?,
     }
@@ -51,21 +46,24 @@ pub fn write_web<W: Web>(
     iri: &[u8],
     out: &mut Vec<u8>,
 ) -> Result<(), AllocError> {
-    let mut count = 0;
-    match web.lookup(iri) {
-        Ok(None) => out.extend_from_slice(b"absent")?,
+    let count = match web.lookup(iri) {
+        Ok(None) => {
+            out.extend_from_slice(b"absent")?;
+            0
+        }
         Err(cause) => {
             out.extend_from_slice(b"broken ")?;
             write_number(heap, cause.code(), out)?;
             out.push(b' ')?;
             write_number(heap, cause.place(), out)?;
+            0
         }
         Ok(Some(length)) => {
             out.extend_from_slice(b"found ")?;
             write_number(heap, length as u64, out)?;
-            count = length;
+            length
         }
-    }
+    };
     for place in 0..count {
         for part in 1..4 {
             write_term(heap, web, iri, place, part, out)?;

@@ -6,10 +6,27 @@ mod hex;
 use anyhow::anyhow;
 use hex::unhex;
 use pages::Pages;
-use std::alloc::Global;
+use std::alloc::{AllocError, Global};
 use std::io::{BufRead, BufReader, Write};
 use telling::write_web;
 use web::Pair;
+
+// A file as a Web. Of one that is refused the number is written, behind some words.
+fn open<'a>(
+    heap: Global,
+    file: &'a [u8],
+    words: &str,
+    out: &mut Vec<u8>,
+) -> Result<Option<Pages<'a>>, AllocError> {
+    match Pages::new(file) {
+        Ok(pages) => Ok(Some(pages)),
+        Err(refused) => {
+            let line = format!(in heap; "{words}refused {}\n", refused.number())?;
+            out.extend_from_slice(line.as_bytes())?;
+            Ok(None)
+        }
+    }
+}
 
 // What the first file answers alone, and with the second behind it.
 fn answer(
@@ -20,21 +37,11 @@ fn answer(
     out: &mut Vec<u8>,
 ) -> anyhow::Result<()> {
     out.clear();
-    let first = match Pages::new(first) {
-        Ok(pages) => pages,
-        Err(refused) => {
-            let line = format!(in heap; "refused {}\n", refused.number())?;
-            out.extend_from_slice(line.as_bytes())?;
-            return Ok(());
-        }
+    let Some(first) = open(heap, first, "", out)? else {
+        return Ok(());
     };
-    let second = match Pages::new(second) {
-        Ok(pages) => pages,
-        Err(refused) => {
-            let line = format!(in heap; "then refused {}\n", refused.number())?;
-            out.extend_from_slice(line.as_bytes())?;
-            return Ok(());
-        }
+    let Some(second) = open(heap, second, "then ", out)? else {
+        return Ok(());
     };
     write_web(heap, &first, iri, out)?;
     out.extend_from_slice(b" | ")?;

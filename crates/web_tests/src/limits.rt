@@ -30,13 +30,11 @@ fn longest_file(rt: HostRuntime) -> Result<(), Fail> {
         b"found 1 <a> <b> \"cd\" 14 14 14 15".as_slice()
     );
     fill(65537, &mut file)?;
-    match Pages::new(file.as_slice()) {
-        Err(refused) => {
-            assert!(rt; refused.number() == 16 && refused.length == 65537);
-            Ok(())
-        },
-        Ok(_) => Err(Fail::new("a file over the limit is taken")),
-    }
+    let Err(refused) = Pages::new(file.as_slice()) else {
+        return Err(Fail::new("a file over the limit is taken"));
+    };
+    assert!(rt; refused.number() == 16 && refused.length == 65537);
+    Ok(())
 }
 
 // The term has 2 bytes, and a buffer's byte behind it stays.
@@ -46,25 +44,23 @@ fn buffers(rt: HostRuntime) -> Result<(), Fail> {
         return Err(Fail::new("the file is refused"));
     };
     let mut buffer = *b"___";
-    match pages.read(b"m:1", 0, 3, &mut buffer) {
-        Ok(written) => assert!(rt; written.kind.number() == 2 && written.length == 2),
-        Err(_) => return Err(Fail::new("the object is refused")),
-    }
+    let Ok(written) = pages.read(b"m:1", 0, 3, &mut buffer) else {
+        return Err(Fail::new("the object is refused"));
+    };
+    assert!(rt; written.kind.number() == 2 && written.length == 2);
     assert_eq!(rt; &buffer, b"cd_");
     let mut short = *b"_";
-    match pages.read(b"m:1", 0, 3, &mut short) {
-        Ok(_) => return Err(Fail::new("two bytes fit into one")),
-        Err(unread) => assert!(rt; unread.number() == 15),
-    }
+    let Err(unread) = pages.read(b"m:1", 0, 3, &mut short) else {
+        return Err(Fail::new("two bytes fit into one"));
+    };
+    assert!(rt; unread.number() == 15);
     assert_eq!(rt; &short, b"_");
     // No such triple comes first.
-    match pages.read(b"m:1", 1, 3, &mut short) {
-        Ok(_) => Err(Fail::new("there is a second triple")),
-        Err(unread) => {
-            assert!(rt; unread.number() == 14);
-            Ok(())
-        },
-    }
+    let Err(unread) = pages.read(b"m:1", 1, 3, &mut short) else {
+        return Err(Fail::new("there is a second triple"));
+    };
+    assert!(rt; unread.number() == 14);
+    Ok(())
 }
 
 const FIRST: &[u8] = b"@page <m:1>\n<a> <b> <c> .\n@page <m:2>\noops\n";

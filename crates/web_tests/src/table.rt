@@ -97,15 +97,13 @@ fn one_file(rt: HostRuntime) -> Result<(), Fail> {
     let mut file = Vec::new(heap);
     let mut out = Vec::new(heap);
     spell(&mut file)?;
-    match Pages::new(file.as_slice()) {
-        Err(_) => Err(Fail::new("the file is refused")),
-        Ok(pages) => {
-            for (iri, line) in ROWS.iter() {
-                out.clear();
-                write_web(heap, &pages, iri, &mut out)?;
-                assert_eq!(rt; out.as_slice(), *line);
-            }
-            Ok(())
-        }
+    let Ok(pages) = Pages::new(file.as_slice()) else {
+        return Err(Fail::new("the file is refused"));
+    };
+    for (iri, line) in ROWS.iter() {
+        out.clear();
+        write_web(heap, &pages, iri, &mut out)?;
+        assert_eq!(rt; out.as_slice(), *line);
     }
+    Ok(())
 }
