@@ -16,7 +16,7 @@ pub struct Seen<'a> {
     pub behind: Lines<'a>,
 }
 
-// Passes lines until one opens the page of an address.
+// Passes lines until one opens the page of an address. `Iterator::find` was tried: no proof of the clause was found in ten minutes.
 fn find<'a>(from: Lines<'a>, address: &[u8]) -> Option<Lines<'a>>
     ensures { MatchOption result (lines_on address.now from.entry.passed None (lines_of from.entry.rest.now) ≡ []) (λ l. Opened address.now from.entry.passed from.entry.rest.now l.passed l.rest.now) }
 {
@@ -31,7 +31,7 @@ fn find<'a>(from: Lines<'a>, address: &[u8]) -> Option<Lines<'a>>
     None
 }
 
-// Passes the lines of a page that is open, until another page is opened.
+// Passes the lines of a page that is open, until another page is opened. The cursor is asked by `next`, since it is handed on.
 fn page<'a>(from: Lines<'a>, address: &[u8], place: usize) -> Result<Seen<'a>, PageCause>
     ensures { MatchResult result (λ s. Passed address.now from.entry.passed from.entry.rest.now place s.count s.stating.now None s.behind.passed s.behind.rest.now) (λ e. first_fault (lines_on address.now from.entry.passed (Some address.now) (lines_of from.entry.rest.now)) ≡ Some e) }
 {
