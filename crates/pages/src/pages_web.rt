@@ -11,8 +11,8 @@ use crate::cause::PageCause;
 use crate::pages::{Pages, TooLong};
 use crate::scan::{Seen, scan};
 use lines::{Line, Stated, run_before, statement};
-use terms::{Kind, is_iri};
-use web::{Unread, Web, Written, give};
+use terms::{Kind, Unwritten, is_iri};
+use web::{Web, Written, give};
 
 impl TooLong {
     pub fn number(self) -> u8
@@ -77,13 +77,13 @@ impl Web for Pages<'_> {
         Ok(self.seen(iri, 0)?.map(|seen| seen.count))
     }
 
-    fn read(&self, iri: &[u8], place: usize, part: u8, out: &mut [u8]) -> Result<Written, Unread> {
-        let stated = self.stated(iri, place).ok_or(Unread::NoSuch)?;
+    fn read(&self, iri: &[u8], place: usize, part: u8, out: &mut [u8]) -> Result<Written, Unwritten> {
+        let stated = self.stated(iri, place).ok_or(Unwritten::NoSuch)?;
         match part {
             1 => give(Kind::Iri, stated.subject, out),
             2 => give(Kind::Iri, stated.predicate, out),
             3 => give(stated.kind, stated.object, out),
-            _ => Err(Unread::NoSuch),
+            _ => Err(Unwritten::NoSuch),
         }
     }
 }

@@ -11,8 +11,8 @@ use Rattle.lexicon.proofs.Numbers.{and_left, and_right, enter_all_append, enter_
 use Rattle.shelf.specs.declared.items.Listed.{Listed}
 use Rattle.web.specs.Laws.{Lawful, is_kind_iri, lawful_iri, lawful_triple, lawful_triples}
 use Rattle.web.specs.declared.answers.Written.{Written}
-use Rattle.web.specs.declared.answers.Unread.{Unread}
-use Rattle.web.specs.declared.answers.Unread.TheVariants.{NoSuch, TooShort}
+use Rattle.terms.specs.declared.unwritten.Unwritten.{Unwritten}
+use Rattle.terms.specs.declared.unwritten.Unwritten.TheVariants.{NoSuch, TooShort}
 use Rattle.web.specs.Answers.{answer, tells, leaves, written}
 use Rattle.web.specs.Meaning.{Triple, Looked, found, absent, broken, cell, listed, part_of, told, triples, Mark as Cause}
 use Rattle.std.proofs.lemmas.List.{take_more, map_push}
@@ -26,10 +26,10 @@ use Rattle.store.proofs.Asking.{some_in, none_in}
 
 -- ---- one term read
 
-err_ok : {X : Type 0} (u : Unread) (w : Written) → ◌≡◌ {A = Result Written Unread} (Ok w) (Err u) → X
+err_ok : {X : Type 0} (u : Unwritten) (w : Written) → ◌≡◌ {A = Result Written Unwritten} (Ok w) (Err u) → X
 err_ok u w e = let z : ◌≡◌ {A = ℕ} 0 1 = cc in absurd (omega arith)
 
-ok_is : (v w : Written) → ◌≡◌ {A = Result Written Unread} (Ok v) (Ok w) → v ≡ w
+ok_is : (v w : Written) → ◌≡◌ {A = Result Written Unwritten} (Ok v) (Ok w) → v ≡ w
 ok_is v w e = cc
 
 pub read_within : (o : Option Term) (buffer : List ℕ) (w : Written) → Ok w ≡ tells o buffer → w.length ≤ length buffer
@@ -49,7 +49,7 @@ read_term o t buffer out w e h ew eo =
     ap₂ (λ (y : Written) (l : List ℕ). term y.kind (take y.length l)) v x ∙ ap (term t.kind) (take_at t.bytes (drop (length t.bytes) buffer) (length t.bytes) refl)
 
 -- a term that can be read is not refused
-pub read_some : (o : Option Term) (t : Term) (buffer : List ℕ) (u : Unread) → {X : Type 0} → o ≡ Some t → length t.bytes ≤ length buffer → Err u ≡ tells o buffer → X
+pub read_some : (o : Option Term) (t : Term) (buffer : List ℕ) (u : Unwritten) → {X : Type 0} → o ≡ Some t → length t.bytes ≤ length buffer → Err u ≡ tells o buffer → X
 read_some o t buffer u e h f =
     let g : leb (length t.bytes) (length buffer) ≡ true = le-leb _ _ h in
     err_ok u (written t) (sym (f ∙ ap (λ p. tells p buffer) e ∙ ap (λ b. cond b (Ok (written t)) (Err TooShort)) g))

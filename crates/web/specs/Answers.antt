@@ -3,24 +3,19 @@ use Rattle.std.specs.Prelude.{ℕ, cond, List, ◌++◌, length, drop, Some, Non
 use Rattle.terms.specs.Terms.{Term}
 use Rattle.web.specs.Meaning.{Looked, found, absent, broken}
 use Rattle.web.specs.declared.answers.Written.{Written}
-use Rattle.web.specs.declared.answers.Unread.{Unread}
-use Rattle.web.specs.declared.answers.Unread.TheVariants.{NoSuch, TooShort}
+use Rattle.terms.specs.declared.unwritten.Unwritten.{Unwritten}
+use Rattle.terms.specs.declared.unwritten.Unwritten.TheVariants.{NoSuch, TooShort}
 
 abbrev pub answer : {C : Type 0} → Looked C → Result (Option ℕ) C
 answer (found ts) = Ok (Some (length ts))
 answer absent = Ok None
 answer (broken c) = Err c
 
--- the numbers of the refusals
-abbrev pub unread_number : Unread → ℕ
-unread_number NoSuch = 14
-unread_number TooShort = 15
-
 abbrev pub written : Term → Written
 written t = record { kind = t.kind; length = length t.bytes }
 
 -- what a read of a term tells that is given a buffer: there is no such term, then the buffer is too short
-abbrev pub tells : Option Term → List ℕ → Result Written Unread
+abbrev pub tells : Option Term → List ℕ → Result Written Unwritten
 tells None buffer = Err NoSuch
 tells (Some t) buffer = cond (nat_le (length t.bytes) (length buffer)) (Ok (written t)) (Err TooShort)
 

@@ -7,12 +7,3 @@ pub struct Written {
     pub kind: Kind,
     pub length: usize,
 }
-
-// Why a read wrote nothing, by number.
-#[derive(Clone, Copy)]
-pub enum Unread {
-    // The list has no such triple, or a triple no such part.
-    NoSuch = 14,
-    // The buffer is shorter than the term.
-    TooShort = 15,
-}

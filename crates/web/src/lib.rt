@@ -8,7 +8,7 @@ mod pair_web;
 mod web;
 mod writes;
 
-pub use answers::{Unread, Written};
+pub use answers::Written;
 pub use laws::{agreement_is_lawful, pairs_tell, terms_fit};
 pub use pair::{Pair, PairCause};
 pub use web::{Cause, Web};

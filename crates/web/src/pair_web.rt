@@ -2,9 +2,10 @@
 ghost use Rattle.web.specs.Pairs.{both, either_mark};
 ghost use Rattle.web.specs.Paired.{pair_lawful};
 
-use crate::answers::{Unread, Written};
+use crate::answers::Written;
 use crate::pair::{Pair, PairCause};
 use crate::web::{Cause, Web};
+use terms::Unwritten;
 
 impl<A: Cause, B: Cause> Cause for PairCause<A, B> {
     ghost mark = { either_mark A.Cause.mark B.Cause.mark };
@@ -43,7 +44,7 @@ impl<A: Web, B: Web> Web for Pair<A, B> {
         }
     }
 
-    fn read(&self, iri: &[u8], place: usize, part: u8, out: &mut [u8]) -> Result<Written, Unread> {
+    fn read(&self, iri: &[u8], place: usize, part: u8, out: &mut [u8]) -> Result<Written, Unwritten> {
         if let Ok(None) = self.first.lookup(iri) {
             self.second.read(iri, place, part, out)
         } else {

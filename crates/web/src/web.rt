@@ -4,7 +4,8 @@ ghost use Rattle.web.specs.Answers.{answer, tells, leaves};
 ghost use Rattle.web.specs.Laws.{Lawful};
 ghost use Rattle.web.specs.Meaning.{Looked, Mark, cell};
 
-use crate::answers::{Unread, Written};
+use crate::answers::Written;
+use terms::Unwritten;
 
 // Why an address cannot be read. A make's own cause may say more than the two numbers that every cause tells.
 pub trait Cause {
@@ -32,7 +33,7 @@ pub trait Web {
 
     // Writes one term at the buffer's front: of the triple at a place from 0 the part 1 (subject), 2 (predicate) or 3 (object). A part is a number, since
     // any other is refused too: a narrower type would ask more of callers.
-    fn read(&self, iri: &[u8], place: usize, part: u8, out: &mut [u8]) -> Result<Written, Unread>
+    fn read(&self, iri: &[u8], place: usize, part: u8, out: &mut [u8]) -> Result<Written, Unwritten>
         ensures answer { result ≡ tells (cell (meaning self.now iri.now) place part) out.old }
         ensures buffer { out.new ≡ leaves (cell (meaning self.now iri.now) place part) out.old };
 }
