@@ -4,6 +4,8 @@ ghost use Rattle.outline.specs.Outlined.{Adds};
 
 use std::alloc::AllocError;
 
+// The question and `out` are handed on side by side. Tried as one struct that lends both: each method then has to promise too that it keeps the question, and
+// that its lender finds in `out` what the methods wrote stayed open.
 pub fn put(bytes: &[u8], out: &mut Vec<u8>) -> Result<(), AllocError>
     ensures { Adds result out.old.items out.new.items bytes.now }
 {
