@@ -11,7 +11,7 @@ fn run(rt: &HostRuntime) -> anyhow::Result<()> {
     let heap = rt.alloc();
     let mut draft = Draft::new(heap)?;
     answer_lines(heap, rt.stdin(), &mut rt.stdout(), |line, out| {
-        let Some(text) = unhex(heap, line)? else {
+        let Some(text) = unhex(heap, line.as_bytes())? else {
             return Err(anyhow!("a line is not in hex"));
         };
         write_reading(&mut draft, text.as_slice(), out)?;

@@ -3,7 +3,7 @@ use std::alloc::Global;
 use std::io::{BufRead, BufReader, Read, Write};
 
 // Writes the answer to each line as soon as it is there. The first error ends it.
-pub fn answer_lines<F: FnMut(&[u8], &mut Vec<u8>) -> anyhow::Result<()>>(
+pub fn answer_lines<F: FnMut(&str, &mut Vec<u8>) -> anyhow::Result<()>>(
     heap: Global,
     input: impl Read + Drop,
     output: &mut impl Write,
@@ -14,7 +14,7 @@ pub fn answer_lines<F: FnMut(&[u8], &mut Vec<u8>) -> anyhow::Result<()>>(
     let mut out = Vec::new(heap);
     for line in BufReader::new(heap, input)?.lines(heap) {
         out.clear();
-        answer(line?.as_bytes(), &mut out)?;
+        answer(line?.as_str(), &mut out)?;
         out.push(b'\n')?;
         output.write_all(out.as_slice())?;
     }

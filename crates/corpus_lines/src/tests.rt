@@ -32,7 +32,7 @@ fn answered(rt: HostRuntime) -> Result<(), Fail> {
     let mut output = Vec::new(rt.alloc());
     answer_lines(rt.alloc(), &mut input, &mut output, |line, out| {
         out.push(b'<')?;
-        out.extend_from_slice(line)?;
+        out.extend_from_slice(line.as_bytes())?;
         out.push(b'>')?;
         Ok(())
     })?;

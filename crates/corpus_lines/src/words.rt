@@ -3,16 +3,16 @@ ghost use Rattle.std.specs.Prelude.{◌≡◌, ◌≢◌, ℕ, List, IfOk, Match
 ghost use Rattle.hex.specs.Hex.{IsBytes, encode_lower};
 
 use hex::FromHexError;
-use std::alloc::{AllocError, Global};
+use std::alloc::Global;
 
-// The bytes that a word spells, if it is in hex with small letters.
-pub fn unhex(heap: Global, word: &[u8]) -> Result<Option<Vec<u8>>, AllocError>
+// The bytes that a word spells, if it is in hex with small letters. The only error is that memory runs out.
+pub fn unhex(heap: Global, word: &[u8]) -> Result<Option<Vec<u8>>, FromHexError>
     ensures { IfOk result (λ found. MatchOption found ((bytes : List ℕ) → IsBytes bytes → word.now ≢ encode_lower bytes) (λ v. word.now ≡ encode_lower v.items)) }
 {
     let bytes = match hex::decode(heap, word) {
         Ok(bytes) => bytes,
         Err(refused) => match refused {
-            FromHexError::OutOfMemory => return Err(AllocError),
+            FromHexError::OutOfMemory => return Err(refused),
             _ => return Ok(None),
         },
     };

@@ -30,7 +30,7 @@ fn run(rt: &HostRuntime) -> anyhow::Result<()> {
     let mut draft = Draft::new(heap)?;
     let mut judged = Judged::new(heap)?;
     answer_lines(heap, rt.stdin(), &mut rt.stdout(), |line, out| {
-        let Some(text) = unhex(heap, line)? else {
+        let Some(text) = unhex(heap, line.as_bytes())? else {
             return Err(anyhow!("a line is not in hex"));
         };
         answer(&mut draft, &mut judged, text.as_slice(), out)?;

@@ -1,13 +1,10 @@
 // Prints what page files, and pairs of them, answer. A line of standard input has two files and an IRI, in hex, parted by single spaces.
 #![tactic(auto)]
 
-mod hex;
-
 use anyhow::anyhow;
-use hex::unhex;
+use corpus_lines::{answer_lines, unhex};
 use pages::Pages;
 use std::alloc::{AllocError, Global};
-use std::io::{BufRead, BufReader, Write};
 use telling::write_web;
 use web::Pair;
 
@@ -21,7 +18,7 @@ fn open<'a>(
     match Pages::new(file) {
         Ok(pages) => Ok(Some(pages)),
         Err(refused) => {
-            let line = format!(in heap; "{words}refused {}\n", refused.number())?;
+            let line = format!(in heap; "{words}refused {}", refused.number())?;
             out.extend_from_slice(line.as_bytes())?;
             Ok(None)
         }
@@ -36,7 +33,6 @@ fn answer(
     iri: &[u8],
     out: &mut Vec<u8>,
 ) -> anyhow::Result<()> {
-    out.clear();
     let Some(first) = open(heap, first, "", out)? else {
         return Ok(());
     };
@@ -46,35 +42,38 @@ fn answer(
     write_web(heap, &first, iri, out)?;
     out.extend_from_slice(b" | ")?;
     write_web(heap, &Pair { first, second }, iri, out)?;
-    out.push(b'\n')?;
     Ok(())
+}
+
+// The bytes that a word spells in hex. A lone `-` is no bytes.
+fn bytes(heap: Global, word: &str) -> anyhow::Result<Vec<u8>> {
+    if word == "-" {
+        return Ok(Vec::new(heap));
+    }
+    match unhex(heap, word.as_bytes())? {
+        Some(bytes) => Ok(bytes),
+        None => Err(anyhow!("a word is not in hex")),
+    }
 }
 
 fn run(rt: &HostRuntime) -> anyhow::Result<()> {
     let heap = rt.alloc();
-    let mut first = Vec::new(heap);
-    let mut second = Vec::new(heap);
-    let mut iri = Vec::new(heap);
-    let mut out = Vec::new(heap);
-    for line in BufReader::new(heap, rt.stdin())?.lines(heap) {
-        let line = line?;
-        let mut words = line.as_str().split(' ');
+    answer_lines(heap, rt.stdin(), &mut rt.stdout(), |line, out| {
+        let mut words = line.split(' ');
         let (Some(one), Some(two), Some(three)) = (words.next(), words.next(), words.next()) else {
             return Err(anyhow!("a line has three words"));
         };
-        unhex(one.as_bytes(), &mut first)?;
-        unhex(two.as_bytes(), &mut second)?;
-        unhex(three.as_bytes(), &mut iri)?;
+        let first = bytes(heap, one)?;
+        let second = bytes(heap, two)?;
+        let iri = bytes(heap, three)?;
         answer(
             heap,
             first.as_slice(),
             second.as_slice(),
             iri.as_slice(),
-            &mut out,
-        )?;
-        rt.stdout().write_all(out.as_slice())?;
-    }
-    Ok(())
+            out,
+        )
+    })
 }
 
 fn main(rt: HostRuntime) -> anyhow::Result<()> {
