@@ -4,8 +4,9 @@ use borrow.Author.Tests.{lt-leb}
 use borrow.Rule.Slice.PartMut.{put_mid}
 use Rattle.std.proofs.lemmas.List.{drop_more, set_at}
 use Rattle.terms.specs.Terms.{Term}
-use Rattle.lexicon.specs.declared.unspelled.Unspelled.TheVariants.{TooShort}
-use Rattle.lexicon.specs.Spelling.{behind, spelling, spells, spelled}
+use Rattle.terms.specs.declared.unwritten.Unwritten.TheVariants.{TooShort}
+use Rattle.terms.specs.Marks.{closing}
+use Rattle.lexicon.specs.Spelling.{spelling, spells, spelled}
 
 pub written : (out x : List ℕ) (b e : ℕ) → length x + 2 ≤ length out → set (put_mid 1 ((length x + 1) - 1) (set out 0 b) x) (length x + 1) e ≡ b ∷ ((x ++ e ∷ []) ++ drop (length x + 2) out)
 written [] x b e h = absurd (omega arith)
@@ -21,7 +22,7 @@ written (o ∷ p ∷ os) x b e h =
     ∙ ap (λ i. b ∷ ((x ++ e ∷ []) ++ drop i (o ∷ p ∷ os))) m
 
 size : (t : Term) → length (spelling t) ≡ length t.bytes + 2
-size t = omega (arith, length-append t.bytes (behind t.kind ∷ []))
+size t = omega (arith, length-append t.bytes (closing t.kind ∷ []))
 
 pub spell_fits : (o : Option Term) (t : Term) (buffer : List ℕ) (n : ℕ) → Some t ≡ o → n ≡ length t.bytes + 2 → n ≤ length buffer → (Ok n ≡ spells o buffer) × (spelling t ++ drop n buffer ≡ spelled o buffer)
 spell_fits o t buffer n e en h =

@@ -1,25 +1,15 @@
 -- Terms with their marks, as they are written in a question.
 use Rattle.std.specs.Prelude.{ℕ, cond, List, [], ◌∷◌, ◌++◌, length, drop, Some, None, Ok, Err, Option, Result, nat_le}
 use Rattle.terms.specs.Terms.{Term}
-use Rattle.terms.specs.declared.kind.Kind.{Kind}
-use Rattle.terms.specs.declared.kind.Kind.TheVariants.{Iri, Literal}
-use Rattle.lexicon.specs.declared.unspelled.Unspelled.{Unspelled}
-use Rattle.lexicon.specs.declared.unspelled.Unspelled.TheVariants.{NoSuch, TooShort}
-
--- < and >, or " twice
-abbrev pub before : Kind → ℕ
-before Iri = 60
-before Literal = 34
-
-abbrev pub behind : Kind → ℕ
-behind Iri = 62
-behind Literal = 34
+use Rattle.terms.specs.Marks.{opening, closing}
+use Rattle.terms.specs.declared.unwritten.Unwritten.{Unwritten}
+use Rattle.terms.specs.declared.unwritten.Unwritten.TheVariants.{NoSuch, TooShort}
 
 abbrev pub spelling : Term → List ℕ
-spelling t = before t.kind ∷ t.bytes ++ behind t.kind ∷ []
+spelling t = opening t.kind ∷ t.bytes ++ closing t.kind ∷ []
 
 -- what spelling a term into a buffer tells: there is no such term, then the buffer is too short
-abbrev pub spells : Option Term → List ℕ → Result ℕ Unspelled
+abbrev pub spells : Option Term → List ℕ → Result ℕ Unwritten
 spells None buffer = Err NoSuch
 spells (Some t) buffer = cond (nat_le (length (spelling t)) (length buffer)) (Ok (length (spelling t))) (Err TooShort)
 
@@ -27,8 +17,3 @@ spells (Some t) buffer = cond (nat_le (length (spelling t)) (length buffer)) (Ok
 abbrev pub spelled : Option Term → List ℕ → List ℕ
 spelled None buffer = buffer
 spelled (Some t) buffer = cond (nat_le (length (spelling t)) (length buffer)) (spelling t ++ drop (length (spelling t)) buffer) buffer
-
--- the numbers of the refusals
-abbrev pub unspelled_number : Unspelled → ℕ
-unspelled_number NoSuch = 14
-unspelled_number TooShort = 15

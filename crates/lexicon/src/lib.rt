@@ -8,8 +8,6 @@ mod part;
 mod read;
 mod reserve;
 mod spell;
-mod unspelled;
 
 pub use laws::numbers_are_lawful;
 pub use lexicon::Lexicon;
-pub use unspelled::Unspelled;

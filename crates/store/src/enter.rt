@@ -34,7 +34,7 @@ fn enter_all(terms: &mut Lexicon, question: &Question) -> Option<()>
     Some(())
 }
 
-// A question has no more terms than there is room for.
+// Counts the places as above. A question has no more terms than there is room for.
 fn number_all(terms: &Lexicon, question: &Question, numbers: &mut Room<u16, 2048>)
     ensures { items numbers.new ≡ map (number_of (held terms.now)) (asked question.now).terms }
 {
