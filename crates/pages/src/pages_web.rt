@@ -77,7 +77,13 @@ impl Web for Pages<'_> {
         Ok(self.seen(iri, 0)?.map(|seen| seen.count))
     }
 
-    fn read(&self, iri: &[u8], place: usize, part: u8, out: &mut [u8]) -> Result<Written, Unwritten> {
+    fn read(
+        &self,
+        iri: &[u8],
+        place: usize,
+        part: u8,
+        out: &mut [u8],
+    ) -> Result<Written, Unwritten> {
         let stated = self.stated(iri, place).ok_or(Unwritten::NoSuch)?;
         match part {
             1 => give(Kind::Iri, stated.subject, out),

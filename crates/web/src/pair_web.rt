@@ -44,7 +44,13 @@ impl<A: Web, B: Web> Web for Pair<A, B> {
         }
     }
 
-    fn read(&self, iri: &[u8], place: usize, part: u8, out: &mut [u8]) -> Result<Written, Unwritten> {
+    fn read(
+        &self,
+        iri: &[u8],
+        place: usize,
+        part: u8,
+        out: &mut [u8],
+    ) -> Result<Written, Unwritten> {
         if let Ok(None) = self.first.lookup(iri) {
             self.second.read(iri, place, part, out)
         } else {
