@@ -1,13 +1,13 @@
 -- What is kept of a word that is within its limits.
-use Rattle.std.proofs.Common.{◌≡◌, ℕ, ◌+◌, ◌<◌, ◌≤◌, false, cond, ltb, List, [], ◌∷◌, ◌++◌, map, length, Some, None, Ok, Err, vec_items, Option, Result, sym, refl, ap, ◌∙◌, subst, arith, le-ltb, lt-ltb, le-leb}
+use Rattle.std.proofs.Common.{◌≡◌, ℕ, ◌<◌, ◌≤◌, false, cond, ltb, List, [], ◌∷◌, ◌++◌, map, length, Some, None, Ok, Err, vec_items, Option, sym, refl, ap, ◌∙◌, subst, arith, le-ltb, lt-ltb, le-leb}
 use borrow.Author.Tests.{lt-leb}
 use lib.ListN.{length-map}
-use Rattle.std.proofs.lemmas.List.{map_push, length_push}
+use Rattle.std.proofs.lemmas.List.{map_push}
 use Rattle.terms.specs.declared.kind.Kind.{Kind}
 use Rattle.terms.specs.declared.kind.Kind.TheVariants.{Iri, Literal}
 use Rattle.tokens.specs.declared.token.Token.{Token}
 use Rattle.tokens.specs.declared.token.Lexeme.{Lexeme}
-use Rattle.tokens.specs.Words.{Word, name}
+use Rattle.tokens.specs.Words.{name}
 use Rattle.tokens.specs.Lexed.{said}
 use Rattle.grammar.specs.declared.refusal.Reason.{Reason}
 use Rattle.grammar.specs.declared.refusal.Reason.TheVariants.{NoQuestion, TooDeep, TooManyVariables, TooLong}
@@ -17,7 +17,7 @@ use Rattle.question.specs.declared.span.Span.{Span}
 use Rattle.question.specs.declared.span.TermSpan.{TermSpan}
 use Rattle.question.specs.declared.reader.Reader.{Reader}
 use Rattle.question.specs.Arena.{name_of, term_of}
-use Rattle.question.specs.Views.{seen_of, view, Idle, Stands}
+use Rattle.question.specs.Views.{text_of, seen_of, view, Idle, Stands}
 use Rattle.question.proofs.Bytes.{Finds}
 use Rattle.question.specs.Admission.{term_word, Admission}
 use Rattle.question.proofs.Holding.{stands_last}
@@ -41,9 +41,6 @@ too_deep e = let z : ◌≡◌ {A = ℕ} 0 1 = cc in omega arith
 pub said_as : (text : List ℕ) (l : Lexeme) (t : Token) → l.token ≡ t → said text (record { token = t; start = l.start; end = l.end }) ≡ said text l
 said_as text l t e = ap (λ u. said text (record { token = u; start = l.start; end = l.end })) (sym e)
 
-pub admission_as : {x y : Word} {text : List ℕ} {a b : Reader} {r : Result ℕ Reason} → x ≡ y → Admission x text a b r → Admission y text a b r
-admission_as {x} {y} {text} {a} {b} {r} e h = subst (λ w. Admission w text a b r) e h
-
 -- ---- the limits of a name
 
 abbrev at_names : Name → Seen → Option Reason
@@ -64,106 +61,110 @@ crowded x s h = ap (λ b. cond b (at_most 16 (length x)) (Some TooManyVariables)
 pub record Beside (a b : Reader) : Type 0 where
   pub next : b.next ≡ a.next
   pub full : b.full ≡ a.full
+  pub text : b.built.text ≡ a.built.text
   pub paths : b.built.paths ≡ a.built.paths
   pub patterns : b.built.patterns ≡ a.built.patterns
   pub nodes : b.built.nodes ≡ a.built.nodes
 
-pub idle : (text : List ℕ) {a b : Reader} → Beside a b → Idle (view text a) (view text b)
-idle text h = record { paths = ap vec_items h.paths; patterns = ap vec_items h.patterns; count = h.nodes; full = h.full }
+pub idle : {a b : Reader} → Beside a b → Idle (view a) (view b)
+idle h = record { paths = ap vec_items h.paths; patterns = ap vec_items h.patterns; count = h.nodes; full = h.full }
 
-module _ (text : List ℕ) {a b : Reader} (h : Beside a b) (deep : b.depth ≡ a.depth) where
+module _ {a b : Reader} (h : Beside a b) (deep : b.depth ≡ a.depth) where
   -- a term more
   module _ (names : b.built.names ≡ a.built.names) (t : TermSpan) (n : ℕ) (terms : vec_items b.built.terms ≡ vec_items a.built.terms ++ t ∷ []) (at : n ≡ length (vec_items a.built.terms)) where
-    terms_are : (seen_of text b).terms ≡ (seen_of text a).terms ++ term_of text t ∷ []
-    terms_are = ap (map (term_of text)) terms ∙ map_push (term_of text) (vec_items a.built.terms) t
+    terms_are : (seen_of b).terms ≡ (seen_of a).terms ++ term_of (text_of a) t ∷ []
+    terms_are =
+        ap (λ v. map (term_of (vec_items v)) (vec_items b.built.terms)) h.text
+        ∙ ap (map (term_of (text_of a))) terms ∙ map_push (term_of (text_of a)) (vec_items a.built.terms) t
 
-    stands : Stands (seen_of text b).terms n (term_of text t)
-    stands = subst (λ l. Stands l n (term_of text t)) (sym terms_are) (stands_last (seen_of text a).terms (term_of text t) n (at ∙ sym (length-map (vec_items a.built.terms) (term_of text))))
+    stands : Stands (seen_of b).terms n (term_of (text_of a) t)
+    stands = subst (λ l. Stands l n (term_of (text_of a) t)) (sym terms_are) (stands_last (seen_of a).terms (term_of (text_of a) t) n (at ∙ sym (length-map (vec_items a.built.terms) (term_of (text_of a)))))
 
-    few : length (vec_items b.built.terms) ≤ length (vec_items a.built.terms) + 1
-    few = omega (arith, ap length terms ∙ length_push (vec_items a.built.terms) t)
+    seen_is : seen_of b ≡ record { depth = a.depth; names = (seen_of a).names; terms = (seen_of a).terms ++ term_of (text_of a) t ∷ [] }
+    seen_is = λ i. record { depth = deep i; names = map (name_of (vec_items (h.text i))) (vec_items (names i)); terms = terms_are i }
 
-    seen_is : seen_of text b ≡ record { depth = a.depth; names = (seen_of text a).names; terms = (seen_of text a).terms ++ term_of text t ∷ [] }
-    seen_is = λ i. record { depth = deep i; names = map (name_of text) (vec_items (names i)); terms = terms_are i }
-
-    go : (k : Kind) → t.kind ≡ k → length (name_of text t.span) ≤ 128 → Admission (term_word k (name_of text t.span)) text a b (Ok n)
+    go : (k : Kind) → t.kind ≡ k → length (name_of (text_of a) t.span) ≤ 128 → Admission (term_word k (name_of (text_of a) t.span)) a b (Ok n)
     go Iri e short =
-        let same : term_of text t ≡ record { kind = Iri; bytes = name_of text t.span } = ap (λ k. record { kind = k; bytes = name_of text t.span }) e in
+        let same : term_of (text_of a) t ≡ record { kind = Iri; bytes = name_of (text_of a) t.span } = ap (λ k. record { kind = k; bytes = name_of (text_of a) t.span }) e in
         record {
           is = record {
-            clear = within 128 (length (name_of text t.span)) short;
-            seen = seen_is ∙ ap (λ u. record { depth = a.depth; names = (seen_of text a).names; terms = (seen_of text a).terms ++ u ∷ [] }) same;
+            clear = within 128 (length (name_of (text_of a) t.span)) short;
+            seen = seen_is ∙ ap (λ u. record { depth = a.depth; names = (seen_of a).names; terms = (seen_of a).terms ++ u ∷ [] }) same;
+            text = ap vec_items h.text;
             next = h.next;
-            idle = idle text h;
-            numbered = subst (Stands (seen_of text b).terms n) same stands;
-            few = few;
+            idle = idle h;
+            numbered = subst (Stands (seen_of b).terms n) same stands;
           };
         }
     go Literal e short =
-        let same : term_of text t ≡ record { kind = Literal; bytes = name_of text t.span } = ap (λ k. record { kind = k; bytes = name_of text t.span }) e in
+        let same : term_of (text_of a) t ≡ record { kind = Literal; bytes = name_of (text_of a) t.span } = ap (λ k. record { kind = k; bytes = name_of (text_of a) t.span }) e in
         record {
           is = record {
-            clear = within 128 (length (name_of text t.span)) short;
-            seen = seen_is ∙ ap (λ u. record { depth = a.depth; names = (seen_of text a).names; terms = (seen_of text a).terms ++ u ∷ [] }) same;
+            clear = within 128 (length (name_of (text_of a) t.span)) short;
+            seen = seen_is ∙ ap (λ u. record { depth = a.depth; names = (seen_of a).names; terms = (seen_of a).terms ++ u ∷ [] }) same;
+            text = ap vec_items h.text;
             next = h.next;
-            idle = idle text h;
-            numbered = subst (Stands (seen_of text b).terms n) same stands;
-            few = few;
+            idle = idle h;
+            numbered = subst (Stands (seen_of b).terms n) same stands;
           };
         }
 
-    pub term_kept : length (name_of text t.span) ≤ 128 → Admission (term_word t.kind (name_of text t.span)) text a b (Ok n)
+    pub term_kept : length (name_of (text_of a) t.span) ≤ 128 → Admission (term_word t.kind (name_of (text_of a) t.span)) a b (Ok n)
     term_kept short = go t.kind refl short
 
   -- a name more, or one that was seen before
   module _ (terms : b.built.terms ≡ a.built.terms) (s : Span) (n : ℕ) where
-    name_admitted : limit (seen_of text a) (name (name_of text s)) ≡ None → (seen_of text b).names ≡ noted (name_of text s) (seen_of text a).names → Stands (seen_of text b).names n (name_of text s) → Admission (name (name_of text s)) text a b (Ok n)
+    abbrev x : Name
+    x = name_of (text_of a) s
+
+    name_admitted : limit (seen_of a) (name x) ≡ None → (seen_of b).names ≡ noted x (seen_of a).names → Stands (seen_of b).names n x → Admission (name x) a b (Ok n)
     name_admitted clear names there = record {
       is = record {
         clear = clear;
-        seen = λ i. record { depth = deep i; names = names i; terms = map (term_of text) (vec_items (terms i)) };
+        seen = λ i. record { depth = deep i; names = names i; terms = map (term_of (vec_items (h.text i))) (vec_items (terms i)) };
+        text = ap vec_items h.text;
         next = h.next;
-        idle = idle text h;
+        idle = idle h;
         numbered = there;
-        few = omega (arith, ap (λ v. length (vec_items v)) terms);
       };
     }
 
-    pub name_new : vec_items b.built.names ≡ vec_items a.built.names ++ s ∷ [] → n ≡ length (vec_items a.built.names) → n < 8 → length (name_of text s) ≤ 16 → known (name_of text s) (seen_of text a).names ≡ false → Admission (name (name_of text s)) text a b (Ok n)
+    pub name_new : vec_items b.built.names ≡ vec_items a.built.names ++ s ∷ [] → n ≡ length (vec_items a.built.names) → n < 8 → length (name_of (text_of a) s) ≤ 16 → known (name_of (text_of a) s) (seen_of a).names ≡ false → Admission (name (name_of (text_of a) s)) a b (Ok n)
     name_new names at less short un =
-        let more : (seen_of text b).names ≡ (seen_of text a).names ++ name_of text s ∷ [] = ap (map (name_of text)) names ∙ map_push (name_of text) (vec_items a.built.names) s in
-        let long : length (seen_of text a).names ≡ n = length-map (vec_items a.built.names) (name_of text) ∙ sym at in
-        name_admitted (unknown (name_of text s) (seen_of text a) un ∙ roomy (name_of text s) (seen_of text a) (omega arith) ∙ within 16 (length (name_of text s)) short)
-        (more ∙ sym (ap (λ b. cond b (seen_of text a).names ((seen_of text a).names ++ name_of text s ∷ [])) un))
-        (subst (λ l. Stands l n (name_of text s)) (sym more) (stands_last (seen_of text a).names (name_of text s) n (sym long)))
+        let more : (seen_of b).names ≡ (seen_of a).names ++ x ∷ [] =
+        ap (λ v. map (name_of (vec_items v)) (vec_items b.built.names)) h.text ∙ ap (map (name_of (text_of a))) names ∙ map_push (name_of (text_of a)) (vec_items a.built.names) s in
+        let long : length (seen_of a).names ≡ n = length-map (vec_items a.built.names) (name_of (text_of a)) ∙ sym at in
+        name_admitted (unknown x (seen_of a) un ∙ roomy x (seen_of a) (omega arith) ∙ within 16 (length x) short)
+        (more ∙ sym (ap (λ b. cond b (seen_of a).names ((seen_of a).names ++ x ∷ [])) un))
+        (subst (λ l. Stands l n x) (sym more) (stands_last (seen_of a).names x n (sym long)))
 
-    pub name_known : b.built.names ≡ a.built.names → Finds (name_of text s) (seen_of text a).names (Some n) → Admission (name (name_of text s)) text a b (Ok n)
+    pub name_known : b.built.names ≡ a.built.names → Finds (name_of (text_of a) s) (seen_of a).names (Some n) → Admission (name (name_of (text_of a) s)) a b (Ok n)
     name_known names found =
-        let same : (seen_of text b).names ≡ (seen_of text a).names = ap (λ v. map (name_of text) (vec_items v)) names in
+        let same : (seen_of b).names ≡ (seen_of a).names = λ i. map (name_of (vec_items (h.text i))) (vec_items (names i)) in
         name_admitted
-        (ap (λ b. cond b None (at_names (name_of text s) (seen_of text a))) found.0)
-        (same ∙ sym (ap (λ b. cond b (seen_of text a).names ((seen_of text a).names ++ name_of text s ∷ [])) found.0))
-        (subst (λ l. Stands l n (name_of text s)) (sym same) found.1)
+        (ap (λ b. cond b None (at_names x (seen_of a))) found.0)
+        (same ∙ sym (ap (λ b. cond b (seen_of a).names ((seen_of a).names ++ x ∷ [])) found.0))
+        (subst (λ l. Stands l n x) (sym same) found.1)
 
 -- ---- words over a limit
 
-pub term_long : {text : List ℕ} {a b : Reader} (k : Kind) (x : List ℕ) → 128 < length x → Admission (term_word k x) text a b (Err TooLong)
+pub term_long : {a b : Reader} (k : Kind) (x : List ℕ) → 128 < length x → Admission (term_word k x) a b (Err TooLong)
 term_long Iri x h = record { is = record { limited = beyond 128 (length x) h; apart = too_long } }
 term_long Literal x h = record { is = record { limited = beyond 128 (length x) h; apart = too_long } }
 
-module _ {text : List ℕ} {a b : Reader} (x : Name) (un : known x (seen_of text a).names ≡ false) where
-  pub ninth : 8 ≤ length (vec_items a.built.names) → Admission (name x) text a b (Err TooManyVariables)
+module _ {a b : Reader} (x : Name) (un : known x (seen_of a).names ≡ false) where
+  pub ninth : 8 ≤ length (vec_items a.built.names) → Admission (name x) a b (Err TooManyVariables)
   ninth many = record {
     is = record {
-      limited = unknown x (seen_of text a) un ∙ crowded x (seen_of text a) (omega (arith, length-map (vec_items a.built.names) (name_of text)));
+      limited = unknown x (seen_of a) un ∙ crowded x (seen_of a) (omega (arith, length-map (vec_items a.built.names) (name_of (text_of a))));
       apart = too_many;
     };
   }
 
-  pub name_long : length (vec_items a.built.names) < 8 → 16 < length x → Admission (name x) text a b (Err TooLong)
+  pub name_long : length (vec_items a.built.names) < 8 → 16 < length x → Admission (name x) a b (Err TooLong)
   name_long few h = record {
     is = record {
-      limited = unknown x (seen_of text a) un ∙ roomy x (seen_of text a) (omega (arith, length-map (vec_items a.built.names) (name_of text))) ∙ beyond 16 (length x) h;
+      limited = unknown x (seen_of a) un ∙ roomy x (seen_of a) (omega (arith, length-map (vec_items a.built.names) (name_of (text_of a)))) ∙ beyond 16 (length x) h;
       apart = too_long;
     };
   }

@@ -13,7 +13,7 @@ use Rattle.question.specs.declared.reader.Reader.{Reader}
 use Rattle.question.specs.declared.node.PathNode.TheVariants as path
 use Rattle.question.specs.declared.node.PatternNode.TheVariants as pattern
 use Rattle.question.specs.Arena.{name_of, path_of, pattern_of}
-use Rattle.question.specs.Views.{View, view, seen_of, Passes, Kept, Went, Sees, HeldPath, HeldPattern}
+use Rattle.question.specs.Views.{View, text_of, view, seen_of, Passes, Kept, Went, Sees, HeldPath, HeldPattern}
 use Rattle.question.specs.Outcomes.{HeldLeft, Took, ReadEnd, Emptied}
 use Rattle.question.specs.Asking.{env}
 use Rattle.question.specs.Within.{PathFits, PatternFits, PatternThere, LeftThere}
@@ -21,24 +21,24 @@ use Rattle.question.proofs.Holding.{grow_length, passed_names, passed_length, te
 use Rattle.question.proofs.PathParts.{PathDone, took_number, took_onward, read_onward}
 
 -- the numbers of a question stand for what it has by them
-pub sees : (text : List ℕ) (r : Reader) → Sees (view text r) (env text r.built)
-sees text r = record { terms = λ i x s. s.is (iri_term []); names = λ i x s. s.is []; paths = λ i x s. s.is (negated []) }
+pub sees : (r : Reader) → Sees (view r) (env (text_of r) r.built)
+sees r = record { terms = λ i x s. s.is (iri_term []); names = λ i x s. s.is []; paths = λ i x s. s.is (negated []) }
 
-pub path_there : (text : List ℕ) (r : Reader) {i : ℕ} {x : Paths} → HeldPath (view text r) i x → i < vec_len r.built.paths
-path_there text r h =
-    omega (arith, (h.stands (env text r.built) (sees text r)).within, grow_length (path_of (env text r.built).term) [] (vec_items r.built.paths), r.built.paths.ok.0)
+pub path_there : (r : Reader) {i : ℕ} {x : Paths} → HeldPath (view r) i x → i < vec_len r.built.paths
+path_there r h =
+    omega (arith, (h.stands (env (text_of r) r.built) (sees r)).within, grow_length (path_of (env (text_of r) r.built).term) [] (vec_items r.built.paths), r.built.paths.ok.0)
 
-pub pattern_there : (text : List ℕ) (r : Reader) {i : ℕ} {x : Patterns} → HeldPattern (view text r) i x → i < vec_len r.built.patterns
-pattern_there text r h =
-    omega (arith, (h.stands (env text r.built) (sees text r)).within, grow_length (pattern_of (env text r.built)) [] (vec_items r.built.patterns), r.built.patterns.ok.0)
+pub pattern_there : (r : Reader) {i : ℕ} {x : Patterns} → HeldPattern (view r) i x → i < vec_len r.built.patterns
+pattern_there r h =
+    omega (arith, (h.stands (env (text_of r) r.built) (sees r)).within, grow_length (pattern_of (env (text_of r) r.built)) [] (vec_items r.built.patterns), r.built.patterns.ok.0)
 
-pub left_there : (text : List ℕ) (r : Reader) (o : Option ℕ) (v : Option Patterns) → (r.full ≡ false → HeldLeft (view text r) o v) → LeftThere r o
-left_there text r None v h = tt
-left_there text r (Some i) None h = λ f. absurd (h f)
-left_there text r (Some i) (Some v) h = λ f. pattern_there text r (h f)
+pub left_there : (r : Reader) (o : Option ℕ) (v : Option Patterns) → (r.full ≡ false → HeldLeft (view r) o v) → LeftThere r o
+left_there r None v h = tt
+left_there r (Some i) None h = λ f. absurd (h f)
+left_there r (Some i) (Some v) h = λ f. pattern_there r (h f)
 
-pub names_length : (text : List ℕ) (r : Reader) → vec_len r.built.names ≡ length (seen_of text r).names
-names_length text r = r.built.names.ok.0 ∙ sym (length-map (vec_items r.built.names) (name_of text))
+pub names_length : (r : Reader) → vec_len r.built.names ≡ length (seen_of r).names
+names_length r = r.built.names.ok.0 ∙ sym (length-map (vec_items r.built.names) (name_of (text_of r)))
 
 pub passed_names_length : {p q : View} → Passes p q → length p.seen.names ≤ length q.seen.names
 passed_names_length {p} {q} g = let m = passed_names g in omega (arith, ap length m.1 ∙ length-append p.seen.names m.0)
@@ -57,33 +57,33 @@ pushed f g xs ys x d e old new none i =
 
 -- ---- nodes
 
-module _ (text : List ℕ) {r : Reader} where
-  pub link_fits : {p : View} {n : ℕ} → Took Iri p (view text r) n → PathFits r (path.Link n)
-  link_fits h = record { from = λ f. omega arith; terms = λ f. omega (arith, (took_number h).within, terms_length text r) }
+module _ {r : Reader} where
+  pub link_fits : {p : View} {n : ℕ} → Took Iri p (view r) n → PathFits r (path.Link n)
+  link_fits h = record { from = λ f. omega arith; terms = λ f. omega (arith, (took_number h).within, terms_length r) }
 
-  pub inverse_fits : {i : ℕ} {x : Paths} → (r.full ≡ false → HeldPath (view text r) i x) → PathFits r (path.Inverse i)
-  inverse_fits h = record { from = λ f. omega (arith, path_there text r (h f)); terms = λ f. omega arith }
+  pub inverse_fits : {i : ℕ} {x : Paths} → (r.full ≡ false → HeldPath (view r) i x) → PathFits r (path.Inverse i)
+  inverse_fits h = record { from = λ f. omega (arith, path_there r (h f)); terms = λ f. omega arith }
 
-  pub alternative_fits : {i j : ℕ} {x y : Paths} → (r.full ≡ false → HeldPath (view text r) i x) → (r.full ≡ false → HeldPath (view text r) j y) → PathFits r (path.Alternative i j)
-  alternative_fits h k = record { from = λ f. omega (arith, path_there text r (h f), path_there text r (k f)); terms = λ f. omega arith }
+  pub alternative_fits : {i j : ℕ} {x y : Paths} → (r.full ≡ false → HeldPath (view r) i x) → (r.full ≡ false → HeldPath (view r) j y) → PathFits r (path.Alternative i j)
+  alternative_fits h k = record { from = λ f. omega (arith, path_there r (h f), path_there r (k f)); terms = λ f. omega arith }
 
-  pub sequence_fits : {i j : ℕ} {x y : Paths} → (r.full ≡ false → HeldPath (view text r) i x) → (r.full ≡ false → HeldPath (view text r) j y) → PathFits r (path.Sequence i j)
-  sequence_fits h k = record { from = λ f. omega (arith, path_there text r (h f), path_there text r (k f)); terms = λ f. omega arith }
+  pub sequence_fits : {i j : ℕ} {x y : Paths} → (r.full ≡ false → HeldPath (view r) i x) → (r.full ≡ false → HeldPath (view r) j y) → PathFits r (path.Sequence i j)
+  sequence_fits h k = record { from = λ f. omega (arith, path_there r (h f), path_there r (k f)); terms = λ f. omega arith }
 
-  pub union_fits : {i j : ℕ} {x y : Patterns} → (r.full ≡ false → HeldPattern (view text r) i x) → (r.full ≡ false → HeldPattern (view text r) j y) → PatternFits r (pattern.Union i j)
-  union_fits h k = record { from = λ f. omega (arith, pattern_there text r (h f), pattern_there text r (k f)); paths = λ f. omega arith; terms = λ f. omega arith; names = λ f. omega arith }
+  pub union_fits : {i j : ℕ} {x y : Patterns} → (r.full ≡ false → HeldPattern (view r) i x) → (r.full ≡ false → HeldPattern (view r) j y) → PatternFits r (pattern.Union i j)
+  union_fits h k = record { from = λ f. omega (arith, pattern_there r (h f), pattern_there r (k f)); paths = λ f. omega arith; terms = λ f. omega arith; names = λ f. omega arith }
 
-  pub opt_fits : {i j : ℕ} {y : Patterns} → PatternThere r i → (r.full ≡ false → HeldPattern (view text r) j y) → PatternFits r (pattern.Opt i j)
-  opt_fits h k = record { from = λ f. omega (arith, h f, pattern_there text r (k f)); paths = λ f. omega arith; terms = λ f. omega arith; names = λ f. omega arith }
+  pub opt_fits : {i j : ℕ} {y : Patterns} → PatternThere r i → (r.full ≡ false → HeldPattern (view r) j y) → PatternFits r (pattern.Opt i j)
+  opt_fits h k = record { from = λ f. omega (arith, h f, pattern_there r (k f)); paths = λ f. omega arith; terms = λ f. omega arith; names = λ f. omega arith }
 
-  pub line_fits : {p q s u : View} {x y : End} {l n : ℕ} → ReadEnd p q x → PathDone is_path (λ t. means t) q s l → ReadEnd s u y → Took Dot u (view text r) n → PatternFits r (pattern.Line x l y)
+  pub line_fits : {p q s u : View} {x y : End} {l n : ℕ} → ReadEnd p q x → PathDone is_path (λ t. means t) q s l → ReadEnd s u y → Took Dot u (view r) n → PatternFits r (pattern.Line x l y)
   line_fits x b y d = record {
     from = λ f. omega arith;
     paths = λ f.
         let fu = d.went.kept.free f in
-        omega (arith, path_there text r (path_stays (onward_then (read_onward y.went fu) (took_onward d f)) (b.held (y.went.kept.free fu))));
-    terms = λ f. omega (arith, x.terms, y.terms, terms_length text r, passed_length b.went.passes, passed_length y.went.passes, passed_length d.went.passes);
-    names = λ f. omega (arith, x.names, y.names, names_length text r, passed_names_length b.went.passes, passed_names_length y.went.passes, passed_names_length d.went.passes);
+        omega (arith, path_there r (path_stays (onward_then (read_onward y.went fu) (took_onward d f)) (b.held (y.went.kept.free fu))));
+    terms = λ f. omega (arith, x.terms, y.terms, terms_length r, passed_length b.went.passes, passed_length y.went.passes, passed_length d.went.passes);
+    names = λ f. omega (arith, x.names, y.names, names_length r, passed_names_length b.went.passes, passed_names_length y.went.passes, passed_names_length d.went.passes);
   }
 
 -- what stands to the left of a sign and a part is still there behind them
@@ -96,20 +96,20 @@ module _ {t : Token} {k : Kind} {p q s : View} {n : ℕ} (sign : Took t p q n) (
 
 -- ---- the left of a group
 
-module _ (text : List ℕ) (r s : Reader) where
-  longer : Kept (view text r) (view text s) → s.full ≡ false → vec_len r.built.patterns ≤ vec_len s.built.patterns
+module _ (r s : Reader) where
+  longer : Kept (view r) (view s) → s.full ≡ false → vec_len r.built.patterns ≤ vec_len s.built.patterns
   longer k f =
       let g = k.patterns f in
       omega (arith, ap length g.1 ∙ length-append (vec_items r.built.patterns) g.0, r.built.patterns.ok.0, s.built.patterns.ok.0)
 
-  pub pattern_still : {i : ℕ} → PatternThere r i → Kept (view text r) (view text s) → PatternThere s i
+  pub pattern_still : {i : ℕ} → PatternThere r i → Kept (view r) (view s) → PatternThere s i
   pattern_still h k f = omega (arith, h (k.free f), longer k f)
 
-  pub left_still : (o : Option ℕ) → LeftThere r o → Kept (view text r) (view text s) → LeftThere s o
+  pub left_still : (o : Option ℕ) → LeftThere r o → Kept (view r) (view s) → LeftThere s o
   left_still None h k = tt
   left_still (Some i) h k = pattern_still h k
 
-  pub emptied_there : (o : Option ℕ) (l : ℕ) → LeftThere r o → Emptied o (view text r) (view text s) l → PatternThere s l
+  pub emptied_there : (o : Option ℕ) (l : ℕ) → LeftThere r o → Emptied o (view r) (view s) l → PatternThere s l
   emptied_there None l h x f =
       omega (arith, x.index f, ap length (x.patterns f) ∙ length_push (vec_items r.built.patterns) pattern.Empty, s.built.patterns.ok.0)
   emptied_there (Some i) l h x f =

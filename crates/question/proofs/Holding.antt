@@ -9,7 +9,7 @@ use Rattle.grammar.specs.Reading.{words}
 use Rattle.question.specs.declared.reader.Reader.{Reader}
 use Rattle.question.specs.declared.node.End.{End}
 use Rattle.question.specs.Arena.{term_of, grow, path_of, pattern_of, Env}
-use Rattle.question.specs.Views.{View, seen_of, Passes, Grows, Kept, Stands, Fits, Sees, HeldPath, HeldPattern, HeldEnd}
+use Rattle.question.specs.Views.{View, text_of, seen_of, Passes, Grows, Kept, Stands, Fits, Sees, HeldPath, HeldPattern, HeldEnd}
 use Rattle.question.proofs.Going.{grows_stay, grows_then}
 
 -- ---- lists that grow
@@ -145,8 +145,8 @@ end_stays o h = record { stands = λ e s. h.stands e (sees_before o s) }
 
 -- ---- lengths
 
-pub terms_length : (text : List ℕ) (r : Reader) → vec_len r.built.terms ≡ length (seen_of text r).terms
-terms_length text r = r.built.terms.ok.0 ∙ sym (length-map (vec_items r.built.terms) (term_of text))
+pub terms_length : (r : Reader) → vec_len r.built.terms ≡ length (seen_of r).terms
+terms_length r = r.built.terms.ok.0 ∙ sym (length-map (vec_items r.built.terms) (term_of (text_of r)))
 
 pub passed_length : {p q : View} → Passes p q → length p.seen.terms ≤ length q.seen.terms
 passed_length {p} {q} g = let m = passed_terms g in omega (arith, ap length m.1 ∙ length-append p.seen.terms m.0)

@@ -1,5 +1,5 @@
 -- One token is passed, or it is at fault.
-use Rattle.std.proofs.Common.{◌≡◌, ℕ, ◌+◌, ◌<◌, ◌≤◌, true, false, cond, List, [], ◌∷◌, length, Some, Ok, vec_items, sym, refl, ap, ◌∙◌, subst, arith}
+use Rattle.std.proofs.Common.{◌≡◌, ℕ, ◌+◌, ◌<◌, true, false, cond, List, [], ◌∷◌, map, Some, Ok, vec_items, vec_len, sym, refl, ap, ◌∙◌, subst, arith}
 use Rattle.tokens.specs.declared.token.Token.{Token}
 use Rattle.tokens.specs.declared.token.Token.TheVariants.{Iri, Literal, Variable, OpenBrace, CloseBrace, OpenParen, CloseParen, Dot, Bar, Slash, Caret, Star, Bang, Optional, Union, Wrong, End}
 use Rattle.tokens.specs.declared.token.Lexeme.{Lexeme}
@@ -7,14 +7,15 @@ use Rattle.tokens.specs.Words.{Word, sort, saying, same, end}
 use Rattle.tokens.specs.Lexed.{said, final, ahead, tokens_from, First, part, inner}
 use Rattle.grammar.specs.declared.refusal.Reason.{Reason}
 use Rattle.grammar.specs.declared.refusal.Reason.TheVariants.{NoQuestion, TooDeep, TooManyVariables, TooLong}
-use Rattle.grammar.specs.Limits.{Seen, limit}
+use Rattle.grammar.specs.Limits.{Seen, after, limit}
 use Rattle.grammar.specs.Reading.{words}
 use Rattle.grammar.specs.Machine.{the, Reaches}
 use Rattle.grammar.proofs.Moves.{reach_stay, reach_take, same_is, same_refl, differ}
 use Rattle.question.specs.declared.reader.Reader.{Reader}
-use Rattle.question.specs.Views.{seen_of, view, Ready, Same, Idle, Because, Failed}
+use Rattle.question.specs.Views.{text_of, seen_of, view, Idle, Because, Failed}
+use Rattle.question.specs.Arena.{name_of, term_of}
 use Rattle.question.specs.Outcomes.{Outcome, Took}
-use Rattle.question.specs.Admission.{Admitted, Over}
+use Rattle.question.specs.Admission.{Passed, Admitted, Over}
 use Rattle.question.proofs.Counts.{clash}
 use Rattle.question.proofs.Going.{kept_idle}
 
@@ -63,84 +64,98 @@ pub sort_said : (text : List ℕ) (l : Lexeme) → sort (said text l) ≡ l.toke
 sort_said text l = sort_saying l.token (part text (l.start + 1) (inner l))
 
 -- which way the next word points, by the code's token
-pub points : (text : List ℕ) (l : Lexeme) {t : Token} → l.token ≡ t → sort (said text l) ≡ t
-points text l e = sort_said text l ∙ e
+pub next_sort : (r : Reader) → sort (said (text_of r) r.next) ≡ r.next.token
+next_sort r = sort_said (text_of r) r.next
 
-pub elsewhere : (text : List ℕ) (l : Lexeme) {t : Token} → (l.token ≡ t → ⊥) → sort (said text l) ≡ t → ⊥
-elsewhere text l n e = n (sym (sort_said text l) ∙ e)
+pub points : (r : Reader) {t : Token} → r.next.token ≡ t → sort (said (text_of r) r.next) ≡ t
+points r e = next_sort r ∙ e
+
+pub elsewhere : (r : Reader) {t : Token} → (r.next.token ≡ t → ⊥) → sort (said (text_of r) r.next) ≡ t → ⊥
+elsewhere r n e = n (sym (next_sort r) ∙ e)
 
 -- the text's end is the last token
-pub said_end : (text : List ℕ) (l : Lexeme) → same l.token End ≡ true → words (ahead text l) ≡ end ∷ []
-said_end text l h =
-    let e : said text l ≡ end = ap (λ u. saying u (part text (l.start + 1) (inner l))) (same_is l.token End h) in
-    (λ i. e i ∷ words (cond (final (e i)) [] (tokens_from text l.end)))
+pub said_end : (r : Reader) → same r.next.token End ≡ true → words (view r).spots ≡ end ∷ []
+said_end r h =
+    let e : said (text_of r) r.next ≡ end = ap (λ u. saying u (part (text_of r) (r.next.start + 1) (inner r.next))) (same_is r.next.token End h) in
+    (λ i. e i ∷ words (cond (final (e i)) [] (tokens_from (text_of r) r.next.end)))
 
 -- a token of a sort that more can follow
 pub not_last : (text : List ℕ) (l : Lexeme) (t : Token) → same l.token t ≡ true → final (saying t []) ≡ false → final (said text l) ≡ false
 not_last text l t e h = final_saying l.token (part text (l.start + 1) (inner l)) [] ∙ ap (λ u. final (saying u [])) (same_is l.token t e) ∙ h
 
-module _ (text : List ℕ) (p m : Reader) (k : Lexeme) (t : Token) (n : ℕ) where
-  abbrev to : Reader
-  to = record { next = k; depth = m.depth; full = m.full; built = m.built }
+-- the reader is at the token behind the one that it was at
+pub record Advanced (p m : Reader) : Type 0 where
+  pub first : First (text_of p) p.next.end m.next
+  pub depth : m.depth ≡ p.depth
+  pub full : m.full ≡ p.full
+  pub built : m.built ≡ p.built
 
+pub seen_still : {p m : Reader} → Advanced p m → seen_of m ≡ seen_of p
+seen_still h = λ i. record {
+  depth = h.depth i;
+  names = map (name_of (vec_items (h.built i).text)) (vec_items (h.built i).names);
+  terms = map (term_of (vec_items (h.built i).text)) (vec_items (h.built i).terms);
+}
+
+pub advanced : {p m : Reader} {text : List ℕ} → text ≡ text_of p → First text p.next.end m.next → m.depth ≡ p.depth → m.full ≡ p.full → m.built ≡ p.built → Advanced p m
+advanced {p} {m} e f d u b = record { first = subst (λ t. First t p.next.end m.next) e f; depth = d; full = u; built = b }
+
+module _ (p : Reader) (t : Token) (is : same p.next.token t ≡ true) (lasts : final (saying t []) ≡ false) where
   abbrev x : Word
-  x = said text p.next
+  x = said (text_of p) p.next
 
-  module _ (is : same p.next.token t ≡ true) (lasts : final (saying t []) ≡ false) (ok : Admitted (said text p.next) text p m n) (first : First text m.next.end k) (ready : Ready text p) where
-    on : final x ≡ false
-    on = not_last text p.next t is lasts
+  goes_on : final x ≡ false
+  goes_on = not_last (text_of p) p.next t is lasts
 
-    spots_are : ahead text p.next ≡ record { at = p.next.start; word = said text p.next } ∷ ahead text k
+  pub passed : {m : Reader} → Advanced p m → Passed p.next m
+  passed on = record { some = p.long goes_on; behind = on.first.forward; few = omega (arith, p.few, ap (λ q. vec_len q.terms) on.built) }
+
+  module _ {m b : Reader} {n : ℕ} (ok : Admitted (said (text_of p) p.next) m b n) (on : Advanced p m) where
+    text_is : text_of p ≡ text_of b
+    text_is = sym (ok.text ∙ ap (λ q. vec_items q.text) on.built)
+
+    next_is : m.next ≡ b.next
+    next_is = sym ok.next
+
+    spots_are : ahead (text_of p) p.next ≡ record { at = p.next.start; word = x } ∷ ahead (text_of b) b.next
     spots_are =
-        ap (λ b. record { at = p.next.start; word = said text p.next } ∷ cond b [] (tokens_from text p.next.end)) on
-        ∙ ap (λ l. record { at = p.next.start; word = said text p.next } ∷ tokens_from text l.end) (sym ok.next)
-        ∙ ap (λ v. record { at = p.next.start; word = said text p.next } ∷ v) first.stream
+        ap (λ b. record { at = p.next.start; word = x } ∷ cond b [] (tokens_from (text_of p) p.next.end)) goes_on
+        ∙ ap (λ v. record { at = p.next.start; word = x } ∷ v) (on.first.stream ∙ (λ i. ahead (text_is i) (next_is i)))
 
     sorted : sort x ≡ t
-    sorted = sort_said text p.next ∙ same_is p.next.token t is
+    sorted = next_sort p ∙ same_is p.next.token t is
 
-    falls : p.next.start < k.start
-    falls = omega (arith, ready.long on, ap (λ l. l.end) ok.next, first.forward)
+    falls : p.next.start < b.next.start
+    falls = omega (arith, p.long goes_on, ap (λ l. l.start) ok.next, on.first.forward)
 
-    idle : Idle (view text p) (view text to)
-    idle = record { paths = ok.idle.paths; patterns = ok.idle.patterns; count = ok.idle.count; full = ok.idle.full }
+    idle : Idle (view p) (view b)
+    idle = record {
+      paths = ok.idle.paths ∙ ap (λ q. vec_items q.paths) on.built;
+      patterns = ok.idle.patterns ∙ ap (λ q. vec_items q.patterns) on.built;
+      count = ok.idle.count ∙ ap (λ q. q.nodes) on.built;
+      full = ok.idle.full ∙ on.full;
+    }
 
-    pub took : Outcome (the t) (view text p) (λ i. Took t (view text p) (view text (record { next = k; depth = m.depth; full = m.full; built = m.built })) i) (Ok n)
+    seen_is : seen_of b ≡ after (seen_of p) x
+    seen_is = ok.seen ∙ ap (λ s. after s x) (seen_still on)
+
+    pub took : Outcome (the t) (view p) (λ i. Took t (view p) (view b) i) (Ok n)
     took = record {
       is = record {
-        word = said text p.next;
+        word = x;
         sorted = sorted;
         reads = ap words spots_are;
         went = record {
-          reach = λ ρ. subst (λ v. Reaches (the t ∷ ρ) v ρ (words (ahead text k))) (sym (ap words spots_are)) (reach_take t (said text p.next) (ap (same t) sorted ∙ same_refl t) reach_stay);
-          passes = record { passed = record { at = p.next.start; word = said text p.next } ∷ []; split = spots_are; clear = (ok.clear, tt); gathers = sym ok.seen };
+          reach = λ ρ. subst (λ v. Reaches (the t ∷ ρ) v ρ (words (ahead (text_of b) b.next))) (sym (ap words spots_are)) (reach_take t x (ap (same t) sorted ∙ same_refl t) reach_stay);
+          passes = record { passed = record { at = p.next.start; word = x } ∷ []; split = spots_are; clear = (ap (λ s. limit s x) (sym (seen_still on)) ∙ ok.clear, tt); gathers = sym seen_is };
           kept = kept_idle idle (omega (arith, falls));
         };
-        seen = ok.seen;
+        seen = seen_is;
         idle = idle;
         numbered = ok.numbered;
         falls = falls;
       };
     }
-
-    pub ready_after : Ready text (record { next = k; depth = m.depth; full = m.full; built = m.built })
-    ready_after = record {
-      short = ready.short;
-      within = first.within (omega (arith, ap (λ l. l.end) ok.next, ready.within));
-      last = first.last;
-      long = first.long;
-      few = omega (arith, ok.few, ready.few, falls);
-    }
-
--- what is ready stays so where only nodes are added
-pub ready_same : {text : List ℕ} {p q : Reader} → Same p q → Ready text p → Ready text q
-ready_same {text} {p} {q} s h = record {
-  short = h.short;
-  within = subst (λ l. l.end ≤ length text) (sym s.next) h.within;
-  last = subst (λ l. l.start ≤ l.end) (sym s.next) h.last;
-  long = subst (λ l. final (said text l) ≡ false → l.start < l.end) (sym s.next) h.long;
-  few = omega (arith, h.few, ap (λ v. length (vec_items v)) s.terms, ap (λ l. l.start) s.next);
-}
 
 -- ---- faults
 
@@ -153,21 +168,21 @@ because t TooDeep s x e n h = (e, h)
 because t TooManyVariables s x e n h = (e, h)
 because t TooLong s x e n h = (e, h)
 
-module _ (text : List ℕ) (p : Reader) (t : Token) where
+module _ (p : Reader) (t : Token) where
   -- the token at hand is at fault
-  stopped : (why : Reason) → Because why (seen_of text p) t (said text p.next) → Failed (the t) (view text p) (record { reason = why; at = p.next.start })
+  stopped : (why : Reason) → Because why (seen_of p) t (said (text_of p) p.next) → Failed (the t) (view p) (record { reason = why; at = p.next.start })
   stopped why h = record {
     passed = [];
-    here = record { at = p.next.start; word = said text p.next };
-    behind = cond (final (said text p.next)) [] (tokens_from text p.next.end);
+    here = record { at = p.next.start; word = said (text_of p) p.next };
+    behind = cond (final (said (text_of p) p.next)) [] (tokens_from (text_of p) p.next.end);
     split = refl;
     place = refl;
     clear = tt;
     stops = λ ρ. record { waits = t; below = ρ; reach = reach_stay; because = h };
   }
 
-  pub unlike : same p.next.token t ≡ false → Failed (the t) (view text p) (record { reason = NoQuestion; at = p.next.start })
-  unlike h = stopped NoQuestion (ap (same t) (sort_said text p.next) ∙ same_sym p.next.token t h)
+  pub unlike : same p.next.token t ≡ false → Failed (the t) (view p) (record { reason = NoQuestion; at = p.next.start })
+  unlike h = stopped NoQuestion (ap (same t) (next_sort p) ∙ same_sym p.next.token t h)
 
-  pub over : (why : Reason) → same p.next.token t ≡ true → Over (said text p.next) text p why → Failed (the t) (view text p) (record { reason = why; at = p.next.start })
-  over why is h = stopped why (because t why (seen_of text p) (said text p.next) (ap (same t) (sort_said text p.next ∙ same_is p.next.token t is) ∙ same_refl t) h.apart h.limited)
+  pub over : {m : Reader} {why : Reason} → Over (said (text_of p) p.next) m why → Advanced p m → same p.next.token t ≡ true → Failed (the t) (view p) (record { reason = why; at = p.next.start })
+  over {m} {why} h on is = stopped why (because t why (seen_of p) (said (text_of p) p.next) (ap (same t) (next_sort p ∙ same_is p.next.token t is) ∙ same_refl t) h.apart (ap (λ s. limit s (said (text_of p) p.next)) (sym (seen_still on)) ∙ h.limited))

@@ -14,10 +14,9 @@ use Rattle.grammar.specs.Reading.{words, Lawful, Begins, Refuses, Faulty}
 use Rattle.grammar.specs.Reading as reading
 use Rattle.grammar.specs.Machine.{Symbol, the, a, Reaches}
 use Rattle.grammar.proofs.Prefixes.{viable_prefix, going_prefix, dead_prefix}
-use Rattle.question.specs.declared.question.Question.{Question}
 use Rattle.question.specs.declared.reader.Reader.{Reader}
-use Rattle.question.specs.Views.{View, view, Went, Failed, Because}
-use Rattle.question.specs.Asking.{env, asked_at, asked}
+use Rattle.question.specs.Views.{View, text_of, view, Went, Failed, Because}
+use Rattle.question.specs.Asking.{env, asked_at}
 use Rattle.question.proofs.Going.{words-++, clear_on, gathers_on, went_open, went_on, failed_in}
 use Rattle.question.proofs.Fitting.{sees}
 use Rattle.question.proofs.PatternParts.{PatternDone}
@@ -78,20 +77,19 @@ module _ (text : List ℕ) {p : View} (spots : p.spots ≡ tokens text) (seen : 
 
 -- ---- a question
 
-module _ (text : List ℕ) {p : View} (r : Reader) (root : ℕ) (spots : p.spots ≡ tokens text) (seen : p.seen ≡ nothing) (g : PatternDone is_group (λ t. means t) p (view text r) root) (last : words (view text r).spots ≡ end ∷ []) (short : length text ≤ 2048) where
-  pub a_question : p.count ≡ 0 → r.full ≡ false → reading.Question text (asked_at text root r.built)
+module _ (text : List ℕ) {p : View} (r : Reader) (root : ℕ) (spots : p.spots ≡ tokens text) (seen : p.seen ≡ nothing) (g : PatternDone is_group (λ t. means t) p (view r) root) (last : words (view r).spots ≡ end ∷ []) (short : length text ≤ 2048) where
+  pub a_question : p.count ≡ 0 → r.full ≡ false → reading.Question text (asked_at (text_of r) root r.built)
   a_question none free =
       let seen_is = gathered text spots seen g last short in
       record {
         tree = whole g.tree;
         lawful = lawful text spots seen g last short;
         small = omega (arith, g.counted.short free, none, r.built.few);
-        pattern = ((g.held free).stands (env text r.built) (sees text r)).is empty;
+        pattern = ((g.held free).stands (env (text_of r) r.built) (sees r)).is empty;
         names = ap (λ s. s.names) seen_is;
         terms = ap (λ s. s.terms) seen_is;
       }
 
 -- the nodes that were counted are those of the pattern
-pub counted_all : (text : List ℕ) {p : View} (r : Reader) (root : ℕ) (g : PatternDone is_group (λ t. means t) p (view text r) root) → p.count ≡ 0 → r.full ≡ false
-    → (q : Question) → q.nodes ≡ r.built.nodes → asked q ≡ asked_at text root r.built → q.nodes ≡ nodes (asked q).pattern
-counted_all text r root g none free q kept e = omega (arith, g.counted.short free, none, kept, ap nodes (((g.held free).stands (env text r.built) (sees text r)).is empty), ap (λ x. nodes x.pattern) e)
+pub counted_all : {p : View} (r : Reader) (root : ℕ) (g : PatternDone is_group (λ t. means t) p (view r) root) → p.count ≡ 0 → r.full ≡ false → r.built.nodes ≡ nodes (asked_at (text_of r) root r.built).pattern
+counted_all r root g none free = omega (arith, g.counted.short free, none, ap nodes (((g.held free).stands (env (text_of r) r.built) (sees r)).is empty))

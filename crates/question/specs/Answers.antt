@@ -10,7 +10,7 @@ use Rattle.grammar.specs.Reading as reading
 use Rattle.question.specs.declared.reader.Reader.{Reader}
 use Rattle.question.specs.declared.draft.Draft.{Draft}
 use Rattle.question.specs.Asking.{asked}
-use Rattle.question.specs.Views.{view, Ready, Stands}
+use Rattle.question.specs.Views.{view, Stands}
 
 -- the question that a draft holds
 abbrev pub held : Draft → Asked
@@ -18,11 +18,10 @@ held d = asked d.question
 
 -- the reader has all of a text before it
 pub record Fresh (text : List ℕ) (r : Reader) : Type 0 where
-  pub ready : Ready text r
-  pub spots : (view text r).spots ≡ tokens text
-  pub seen : (view text r).seen ≡ nothing
-  pub count : (view text r).count ≡ 0
-  pub full : (view text r).full ≡ false
+  pub spots : (view r).spots ≡ tokens text
+  pub seen : (view r).seen ≡ nothing
+  pub count : (view r).count ≡ 0
+  pub full : (view r).full ≡ false
 
 -- What reading a text answers: Ok where it is a question, which is then asked; else how it is refused, and what was asked stays.
 abbrev pub Answer : List ℕ → Asked → Result (Unit {0}) Refusal → Asked → Type 0

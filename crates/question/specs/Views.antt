@@ -2,7 +2,7 @@
 use Rattle.std.specs.Prelude.{◌≡◌, ℕ, ◌+◌, ◌<◌, ◌≤◌, Bool, true, false, List, ◌∷◌, ◌++◌, map, length, Some, vec_items, slice_index_or}
 use Rattle.tokens.specs.declared.token.Token.{Token}
 use Rattle.tokens.specs.Words.{Word, sort, same}
-use Rattle.tokens.specs.Lexed.{Spot, ahead, said, final}
+use Rattle.tokens.specs.Lexed.{Spot, ahead}
 use Rattle.grammar.specs.declared.refusal.Reason.{Reason}
 use Rattle.grammar.specs.declared.refusal.Reason.TheVariants.{NoQuestion, TooDeep, TooManyVariables, TooLong}
 use Rattle.grammar.specs.declared.refusal.Fault.{Fault}
@@ -26,33 +26,22 @@ pub record View : Type 0 where
   pub count : ℕ
   pub full : Bool
 
-abbrev pub seen_of : List ℕ → Reader → Seen
-seen_of text r = record { depth = r.depth; names = map (name_of text) (vec_items r.built.names); terms = map (term_of text) (vec_items r.built.terms) }
+abbrev pub text_of : Reader → List ℕ
+text_of r = vec_items r.built.text
 
-abbrev pub view : List ℕ → Reader → View
-view text r = record {
-  spots = ahead text r.next;
+abbrev pub seen_of : Reader → Seen
+seen_of r = record { depth = r.depth; names = map (name_of (text_of r)) (vec_items r.built.names); terms = map (term_of (text_of r)) (vec_items r.built.terms) }
+
+abbrev pub view : Reader → View
+view r = record {
+  spots = ahead (text_of r) r.next;
   start = r.next.start;
-  seen = seen_of text r;
+  seen = seen_of r;
   paths = vec_items r.built.paths;
   patterns = vec_items r.built.patterns;
   count = r.built.nodes;
   full = r.full;
 }
-
--- what holds wherever a function of the reader begins or ends
-pub record Ready (text : List ℕ) (r : Reader) : Type 0 where
-  pub short : length text ≤ 2048
-  pub within : r.next.end ≤ length text
-  pub last : r.next.start ≤ r.next.end
-  pub long : final (said text r.next) ≡ false → r.next.start < r.next.end
-  -- each term took a byte at least
-  pub few : length (vec_items r.built.terms) ≤ r.next.start
-
--- the same token is next, and the same terms are kept
-pub record Same (a b : Reader) : Type 0 where
-  pub next : b.next ≡ a.next
-  pub terms : b.built.terms ≡ a.built.terms
 
 -- ---- from one state to another
 

@@ -1,29 +1,28 @@
 // The limits on a token that the grammar has at its place, and what is kept of it.
-ghost use Rattle.std.specs.Prelude.{◌≡◌, ◌+◌, ◌-◌, ◌<◌, ◌≤◌, false};
+ghost use Rattle.std.specs.Prelude.{◌≡◌, ◌+◌, ◌-◌, false};
 ghost use Rattle.tokens.specs.Words.{name, open_brace, open_paren};
 ghost use Rattle.tokens.specs.Lexed.{said, part};
 ghost use Rattle.grammar.specs.Limits.{known};
 ghost use Rattle.question.specs.Arena.{name_of};
-ghost use Rattle.question.specs.Views.{seen_of, Ready};
-ghost use Rattle.question.specs.Admission.{Admission, Opened, term_word};
+ghost use Rattle.question.specs.Views.{text_of, seen_of};
+ghost use Rattle.question.specs.Admission.{Admission, Opened, Passed, term_word};
 
 use crate::reader::Reader;
 use crate::span::{Span, TermSpan};
 use grammar::Reason;
 use terms::Kind;
-use tokens::Token;
+use tokens::{Lexeme, Token};
 
 impl Reader {
-    // Keeps what the next token says, unless it is over a limit, and tells the number of a term or a variable.
-    pub(crate) fn admit(&mut self, text: &[u8]) -> Result<usize, Reason>
-        requires ready { Ready text.now self.old }
-        requires some { self.old.next.start < self.old.next.end }
-        ensures { Admission (said text.now self.old.next) text.now self.old self.new result }
+    // Keeps what a token says, unless it is over a limit, and tells the number of a term or a variable.
+    pub(crate) fn admit(&mut self, passed: Lexeme) -> Result<usize, Reason>
+        requires { Passed passed self.old }
+        ensures { Admission (said (text_of self.old) passed) self.old self.new result }
     {
-        match self.next.token {
-            Token::Iri => self.admit_term(text, Kind::Iri),
-            Token::Literal => self.admit_term(text, Kind::Literal),
-            Token::Variable => self.admit_name(text),
+        match passed.token {
+            Token::Iri => self.admit_term(passed, Kind::Iri),
+            Token::Literal => self.admit_term(passed, Kind::Literal),
+            Token::Variable => self.admit_name(passed),
             Token::OpenBrace | Token::OpenParen => self.open_bracket(),
             Token::CloseBrace | Token::CloseParen => Ok(self.close_bracket()),
             _ => Ok(0),
@@ -50,16 +49,15 @@ impl Reader {
         0
     }
 
-    fn admit_term(&mut self, text: &[u8], kind: Kind) -> Result<usize, Reason>
-        requires ready { Ready text.now self.old }
-        requires some { self.old.next.start < self.old.next.end }
-        ensures { Admission (term_word kind (part text.now (self.old.next.start + 1) (self.old.next.end - 1))) text.now self.old self.new result }
+    fn admit_term(&mut self, passed: Lexeme, kind: Kind) -> Result<usize, Reason>
+        requires { Passed passed self.old }
+        ensures { Admission (term_word kind (part (text_of self.old) (passed.start + 1) (passed.end - 1))) self.old self.new result }
     {
         let span = Span {
-            start: self.next.start + 1,
-            end: self.next.end - 1,
+            start: passed.start + 1,
+            end: passed.end - 1,
         };
-        if span.of(text).len() > 128 {
+        if span.of(self.built.text.as_slice()).len() > 128 {
             return Err(Reason::TooLong);
         }
         let number = self.built.terms.len();
@@ -67,29 +65,29 @@ impl Reader {
         Ok(number)
     }
 
-    fn admit_name(&mut self, text: &[u8]) -> Result<usize, Reason>
-        requires ready { Ready text.now self.old }
-        ensures { Admission (name (part text.now (self.old.next.start + 1) self.old.next.end)) text.now self.old self.new result }
+    fn admit_name(&mut self, passed: Lexeme) -> Result<usize, Reason>
+        requires { Passed passed self.old }
+        ensures { Admission (name (part (text_of self.old) (passed.start + 1) passed.end)) self.old self.new result }
     {
         let span = Span {
-            start: self.next.start + 1,
-            end: self.next.end,
+            start: passed.start + 1,
+            end: passed.end,
         };
-        match self.find_name(text, span) {
+        match self.find_name(span) {
             Some(number) => Ok(number),
-            None => self.add_name(text, span),
+            None => self.add_name(span),
         }
     }
 
-    fn add_name(&mut self, text: &[u8], span: Span) -> Result<usize, Reason>
-        requires { known (name_of text.now span) (seen_of text.now self.old).names ≡ false }
-        ensures { Admission (name (name_of text.now span)) text.now self.old self.new result }
+    fn add_name(&mut self, span: Span) -> Result<usize, Reason>
+        requires { known (name_of (text_of self.old) span) (seen_of self.old).names ≡ false }
+        ensures { Admission (name (name_of (text_of self.old) span)) self.old self.new result }
     {
         let number = self.built.names.len();
         if number >= 8 {
             return Err(Reason::TooManyVariables);
         }
-        if span.of(text).len() > 16 {
+        if span.of(self.built.text.as_slice()).len() > 16 {
             return Err(Reason::TooLong);
         }
         self.built.names.push_reserved(span);

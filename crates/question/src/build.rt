@@ -1,6 +1,6 @@
 // One node more of the tree that is being read.
-ghost use Rattle.std.specs.Prelude.{◌≡◌, ℕ, ◌+◌, ◌<◌, ◌≤◌, List};
-ghost use Rattle.question.specs.Views.{Same, view};
+ghost use Rattle.std.specs.Prelude.{◌<◌};
+ghost use Rattle.question.specs.Views.{view};
 ghost use Rattle.question.specs.Outcomes.{PlacedPath, PlacedPattern};
 ghost use Rattle.question.specs.Within.{PathFits, PatternFits};
 
@@ -8,12 +8,12 @@ use crate::node::{PathNode, PatternNode};
 use crate::reader::Reader;
 
 impl Reader {
-    // Puts a path into its arena, or notes that there are too many nodes.
+    // Puts a path into its arena, or notes that there are too many nodes. The text is read on all the same, since a fault behind is told first; an
+    // index of no node is 0, and nothing looks at it once the arenas are full. An Option there would only be passed from call to call.
     pub(crate) fn add_path(&mut self, node: PathNode, cost: usize) -> usize
         requires some { 0 < cost }
         requires fits { PathFits self.old node }
-        ensures same { Same self.old self.new }
-        ensures placed { (text : List ℕ) → PlacedPath (view text self.old) (view text self.new) node cost result }
+        ensures { PlacedPath (view self.old) (view self.new) node cost result }
     {
         if self.full || cost > 64 - self.built.nodes {
             self.full = true;
@@ -25,10 +25,10 @@ impl Reader {
         i
     }
 
+    // The same for a pattern. One function of both would take the arena, its invariants and the cost as a trait, and be longer than these two.
     pub(crate) fn add_pattern(&mut self, node: PatternNode) -> usize
         requires { PatternFits self.old node }
-        ensures same { Same self.old self.new }
-        ensures placed { (text : List ℕ) → PlacedPattern (view text self.old) (view text self.new) node 1 result }
+        ensures { PlacedPattern (view self.old) (view self.new) node 1 result }
     {
         if self.full || self.built.nodes >= 64 {
             self.full = true;

@@ -1,10 +1,26 @@
 // A question in the place of another, within memory that is reserved.
-ghost use Rattle.std.specs.Prelude.{◌≡◌, ◌≤◌, length, vec_len, vec_capacity};
+ghost use Rattle.std.specs.Prelude.{◌≡◌, ◌≤◌, [], length, vec_len, vec_capacity};
 ghost use Rattle.question.specs.Asking.{asked};
 
 use crate::question::Question;
 
 impl Question {
+    pub(crate) fn clear(&mut self)
+        ensures text { self.new.text.items ≡ [] }
+        ensures terms { self.new.terms.items ≡ [] }
+        ensures names { self.new.names.items ≡ [] }
+        ensures paths { self.new.paths.items ≡ [] }
+        ensures patterns { self.new.patterns.items ≡ [] }
+        ensures nodes { self.new.nodes ≡ 0 }
+    {
+        self.patterns.clear();
+        self.paths.clear();
+        self.terms.clear();
+        self.names.clear();
+        self.text.clear();
+        self.nodes = 0;
+    }
+
     // Asks what another question asks.
     pub fn copy(&mut self, other: &Question)
         ensures asked { asked self.new ≡ asked other.now }
@@ -22,7 +38,7 @@ impl Question {
     }
 }
 
-fn refill<T: Copy + Drop>(place: &mut Vec<T>, items: &[T])
+pub(crate) fn refill<T: Copy + Drop>(place: &mut Vec<T>, items: &[T])
     requires { length items.now ≤ vec_capacity place.old }
     ensures items { place.new.items ≡ items.now }
     ensures len { vec_len place.new ≡ length items.now }

@@ -1,8 +1,8 @@
 // One token of a sort that the grammar has at its place.
-ghost use Rattle.std.specs.Prelude.{◌≡◌, false, [], OnOk};
+ghost use Rattle.std.specs.Prelude.{◌≡◌, false, []};
 ghost use Rattle.tokens.specs.Words.{saying};
 ghost use Rattle.tokens.specs.Lexed.{final};
-ghost use Rattle.question.specs.Views.{Ready, view};
+ghost use Rattle.question.specs.Views.{view};
 ghost use Rattle.question.specs.Outcomes.{Takes};
 
 use crate::reader::Reader;
@@ -10,13 +10,13 @@ use grammar::{Fault, Reason};
 use tokens::{Token, next};
 
 impl Reader {
-    // Passes the next token, which is to be of this sort, and tells the number of a term or a variable.
-    pub(crate) fn expect(&mut self, text: &[u8], token: Token) -> Result<usize, Fault>
-        requires ready { Ready text.now self.old }
-        requires lasts { final (saying token []) ≡ false }
-        ensures ready { OnOk result (Ready text.now self.new) }
-        ensures outcome { Takes token (view text.now self.old) (view text.now self.new) result }
+    // Passes the next token, which is to be of this sort, and tells the number of a term or a variable. Of another sort it tells 0, which no caller
+    // reads: those who want a number name the sort, and an Option would ask them to unwrap what is always there.
+    pub(crate) fn expect(&mut self, token: Token) -> Result<usize, Fault>
+        requires { final (saying token []) ≡ false }
+        ensures { Takes token (view self.old) (view self.new) result }
     {
+        let passed = self.next;
         let at = self.next.start;
         if self.next.token != token {
             return Err(Fault {
@@ -24,11 +24,9 @@ impl Reader {
                 at,
             });
         }
-        match self.admit(text) {
-            Ok(number) => {
-                self.next = next(text, self.next.end);
-                Ok(number)
-            }
+        self.next = next(self.built.text.as_slice(), passed.end);
+        match self.admit(passed) {
+            Ok(number) => Ok(number),
             Err(reason) => Err(Fault { reason, at }),
         }
     }

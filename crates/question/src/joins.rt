@@ -1,6 +1,6 @@
 // What stands to the left in a group, and what is made of it.
-ghost use Rattle.std.specs.Prelude.{◌≡◌, ℕ, List};
-ghost use Rattle.question.specs.Views.{Same, view};
+ghost use Rattle.std.specs.Prelude.{◌≡◌};
+ghost use Rattle.question.specs.Views.{view};
 ghost use Rattle.question.specs.Outcomes.{Emptied, Joined, begins_item};
 ghost use Rattle.question.specs.Within.{LeftThere, PatternThere};
 
@@ -21,8 +21,7 @@ impl Reader {
 
     // Nothing is the empty pattern.
     pub(crate) fn or_empty(&mut self, left: Option<usize>) -> usize
-        ensures same { Same self.old self.new }
-        ensures emptied { (text : List ℕ) → Emptied left (view text self.old) (view text self.new) result }
+        ensures { Emptied left (view self.old) (view self.new) result }
     {
         match left {
             Some(i) => i,
@@ -34,8 +33,7 @@ impl Reader {
     pub(crate) fn join(&mut self, left: Option<usize>, right: usize) -> usize
         requires left { LeftThere self.old left }
         requires right { PatternThere self.old right }
-        ensures same { Same self.old self.new }
-        ensures joined { (text : List ℕ) → Joined left right (view text self.old) (view text self.new) result }
+        ensures { Joined left right (view self.old) (view self.new) result }
     {
         match left {
             Some(i) => self.add_pattern(PatternNode::And(i, right)),

@@ -1,9 +1,11 @@
-// Reads property paths. Each function reads one kind of the grammar, from the next token on.
-ghost use Rattle.std.specs.Prelude.{ℕ, ◌+◌, ◌-◌, ◌≤◌, List, vec_len, OnOk};
+// Reads property paths. Each function reads one kind of the grammar, from the next token on. `path`, `sequence` and `groups` stay apart though
+// they look alike: one function of the sign, the part and the node would call the part through a parameter, and a cycle of calls through a
+// parameter gets no proof; by an enum it would need three matches to say which of the three it is.
+ghost use Rattle.std.specs.Prelude.{◌+◌, ◌-◌, ◌≤◌, vec_len};
 ghost use Rattle.question.specs.declared.node.PathNode.TheVariants.{Negated};
 ghost use Rattle.grammar.specs.Grammar.{means, is_base, is_members, is_negation, is_path, is_sequence, is_step, is_suffix};
 ghost use Rattle.grammar.specs.Machine.{a};
-ghost use Rattle.question.specs.Views.{Ready, Same, view};
+ghost use Rattle.question.specs.Views.{view};
 ghost use Rattle.question.specs.Outcomes.{Outcome, PathRead, PlacedPath, ReadMembers, ReadSuffix};
 ghost use Rattle.question.specs.Within.{PathThere};
 
@@ -14,30 +16,26 @@ use tokens::Token;
 
 impl Reader {
     #[cycle(path_reading)]
-    pub(crate) fn path(&mut self, text: &[u8]) -> Result<usize, Fault>
-        requires ready { Ready text.now self.old }
-        ensures ready { OnOk result (Ready text.now self.new) }
-        ensures outcome { PathRead is_path (λ t. means t) (view text.now self.old) (view text.now self.new) result }
+    pub(crate) fn path(&mut self) -> Result<usize, Fault>
+        ensures { PathRead is_path (λ t. means t) (view self.old) (view self.new) result }
     {
-        let mut left = self.sequence(text)?;
+        let mut left = self.sequence()?;
         while let Token::Bar = self.next.token {
-            self.expect(text, Token::Bar)?;
-            let right = self.sequence(text)?;
+            self.expect(Token::Bar)?;
+            let right = self.sequence()?;
             left = self.add_path(PathNode::Alternative(left, right), 1);
         }
         Ok(left)
     }
 
     #[cycle(path_reading)]
-    fn sequence(&mut self, text: &[u8]) -> Result<usize, Fault>
-        requires ready { Ready text.now self.old }
-        ensures ready { OnOk result (Ready text.now self.new) }
-        ensures outcome { PathRead is_sequence (λ t. means t) (view text.now self.old) (view text.now self.new) result }
+    fn sequence(&mut self) -> Result<usize, Fault>
+        ensures { PathRead is_sequence (λ t. means t) (view self.old) (view self.new) result }
     {
-        let mut left = self.step(text)?;
+        let mut left = self.step()?;
         while let Token::Slash = self.next.token {
-            self.expect(text, Token::Slash)?;
-            let right = self.step(text)?;
+            self.expect(Token::Slash)?;
+            let right = self.step()?;
             left = self.add_path(PathNode::Sequence(left, right), 1);
         }
         Ok(left)
@@ -45,35 +43,31 @@ impl Reader {
 
     // The inverse covers a base with its star.
     #[cycle(path_reading)]
-    fn step(&mut self, text: &[u8]) -> Result<usize, Fault>
-        requires ready { Ready text.now self.old }
-        ensures ready { OnOk result (Ready text.now self.new) }
-        ensures outcome { PathRead is_step (λ t. means t) (view text.now self.old) (view text.now self.new) result }
+    fn step(&mut self) -> Result<usize, Fault>
+        ensures { PathRead is_step (λ t. means t) (view self.old) (view self.new) result }
     {
         match self.next.token {
             Token::Caret => {
-                self.expect(text, Token::Caret)?;
-                let base = self.base(text)?;
-                let inner = self.suffix(text, base)?;
+                self.expect(Token::Caret)?;
+                let base = self.base()?;
+                let inner = self.suffix(base)?;
                 Ok(self.add_path(PathNode::Inverse(inner), 1))
             }
             _ => {
-                let base = self.base(text)?;
-                self.suffix(text, base)
+                let base = self.base()?;
+                self.suffix(base)
             }
         }
     }
 
     // A star behind a base, if there is one.
-    fn suffix(&mut self, text: &[u8], base: usize) -> Result<usize, Fault>
-        requires ready { Ready text.now self.old }
-        requires there { PathThere self.old base }
-        ensures ready { OnOk result (Ready text.now self.new) }
-        ensures outcome { Outcome (a is_suffix) (view text.now self.old) (λ i. ReadSuffix base (view text.now self.old) (view text.now self.new) i) result }
+    fn suffix(&mut self, base: usize) -> Result<usize, Fault>
+        requires { PathThere self.old base }
+        ensures { Outcome (a is_suffix) (view self.old) (λ i. ReadSuffix base (view self.old) (view self.new) i) result }
     {
         match self.next.token {
             Token::Star => {
-                self.expect(text, Token::Star)?;
+                self.expect(Token::Star)?;
                 Ok(self.add_path(PathNode::Star(base), 1))
             }
             _ => Ok(base),
@@ -81,69 +75,62 @@ impl Reader {
     }
 
     #[cycle(path_reading)]
-    fn base(&mut self, text: &[u8]) -> Result<usize, Fault>
-        requires ready { Ready text.now self.old }
-        ensures ready { OnOk result (Ready text.now self.new) }
-        ensures outcome { PathRead is_base (λ t. means t) (view text.now self.old) (view text.now self.new) result }
+    fn base(&mut self) -> Result<usize, Fault>
+        ensures { PathRead is_base (λ t. means t) (view self.old) (view self.new) result }
     {
         match self.next.token {
             Token::Bang => {
-                self.expect(text, Token::Bang)?;
-                self.negation(text)
+                self.expect(Token::Bang)?;
+                self.negation()
             }
             Token::OpenParen => {
-                self.expect(text, Token::OpenParen)?;
-                let inner = self.path(text)?;
-                self.expect(text, Token::CloseParen)?;
+                self.expect(Token::OpenParen)?;
+                let inner = self.path()?;
+                self.expect(Token::CloseParen)?;
                 Ok(inner)
             }
             _ => {
-                let term = self.expect(text, Token::Iri)?;
+                let term = self.expect(Token::Iri)?;
                 Ok(self.add_path(PathNode::Link(term), 1))
             }
         }
     }
 
     // One predicate or several, that a path is not to have.
-    fn negation(&mut self, text: &[u8]) -> Result<usize, Fault>
-        requires ready { Ready text.now self.old }
-        ensures ready { OnOk result (Ready text.now self.new) }
-        ensures outcome { PathRead is_negation (λ t. means t) (view text.now self.old) (view text.now self.new) result }
+    fn negation(&mut self) -> Result<usize, Fault>
+        ensures { PathRead is_negation (λ t. means t) (view self.old) (view self.new) result }
     {
         let first = self.built.terms.len();
         match self.next.token {
             Token::OpenParen => {
-                self.expect(text, Token::OpenParen)?;
-                self.expect(text, Token::Iri)?;
-                self.members(text)?;
+                self.expect(Token::OpenParen)?;
+                self.expect(Token::Iri)?;
+                self.members()?;
                 Ok(self.add_negated(first))
             }
             _ => {
-                self.expect(text, Token::Iri)?;
+                self.expect(Token::Iri)?;
                 Ok(self.add_negated(first))
             }
         }
     }
 
     // The members of a negated set behind its first, and its closing bracket.
-    fn members(&mut self, text: &[u8]) -> Result<(), Fault>
-        requires ready { Ready text.now self.old }
-        ensures ready { OnOk result (Ready text.now self.new) }
-        ensures outcome { Outcome (a is_members) (view text.now self.old) (λ _. ReadMembers (view text.now self.old) (view text.now self.new)) result }
+    fn members(&mut self) -> Result<(), Fault>
+        ensures { Outcome (a is_members) (view self.old) (λ _. ReadMembers (view self.old) (view self.new)) result }
     {
         while let Token::Bar = self.next.token {
-            self.expect(text, Token::Bar)?;
-            self.expect(text, Token::Iri)?;
+            self.expect(Token::Bar)?;
+            self.expect(Token::Iri)?;
         }
-        self.expect(text, Token::CloseParen)?;
+        self.expect(Token::CloseParen)?;
         Ok(())
     }
 
     // A negated set of the terms from the first on.
     fn add_negated(&mut self, first: usize) -> usize
         requires { first ≤ vec_len self.old.built.terms }
-        ensures same { Same self.old self.new }
-        ensures placed { (text : List ℕ) → PlacedPath (view text self.old) (view text self.new) (Negated first (vec_len self.old.built.terms - first)) (vec_len self.old.built.terms - first + 1) result }
+        ensures { PlacedPath (view self.old) (view self.new) (Negated first (vec_len self.old.built.terms - first)) (vec_len self.old.built.terms - first + 1) result }
     {
         let count = self.built.terms.len() - first;
         self.add_path(PathNode::Negated { first, count }, count + 1)

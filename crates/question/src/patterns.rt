@@ -1,8 +1,7 @@
 // Reads graph patterns. Each function reads one kind of the grammar, from the next token on.
-ghost use Rattle.std.specs.Prelude.{OnOk};
 ghost use Rattle.grammar.specs.Grammar.{means, is_end, is_group, is_groups, is_item, is_items, is_line};
 ghost use Rattle.grammar.specs.Machine.{a};
-ghost use Rattle.question.specs.Views.{Ready, view};
+ghost use Rattle.question.specs.Views.{view};
 ghost use Rattle.question.specs.Outcomes.{Outcome, PatternRead, ReadEnd, ReadItem, ReadItems};
 ghost use Rattle.question.specs.Within.{LeftThere};
 
@@ -13,51 +12,45 @@ use tokens::Token;
 
 impl Reader {
     #[cycle(group_reading)]
-    pub(crate) fn group(&mut self, text: &[u8]) -> Result<usize, Fault>
-        requires ready { Ready text.now self.old }
-        ensures ready { OnOk result (Ready text.now self.new) }
-        ensures outcome { PatternRead is_group (λ t. means t) (view text.now self.old) (view text.now self.new) result }
+    pub(crate) fn group(&mut self) -> Result<usize, Fault>
+        ensures { PatternRead is_group (λ t. means t) (view self.old) (view self.new) result }
     {
-        self.expect(text, Token::OpenBrace)?;
-        let inner = self.items(text)?;
-        self.expect(text, Token::CloseBrace)?;
+        self.expect(Token::OpenBrace)?;
+        let inner = self.items()?;
+        self.expect(Token::CloseBrace)?;
         Ok(self.or_empty(inner))
     }
 
     #[cycle(group_reading)]
-    fn items(&mut self, text: &[u8]) -> Result<Option<usize>, Fault>
-        requires ready { Ready text.now self.old }
-        ensures ready { OnOk result (Ready text.now self.new) }
-        ensures outcome { Outcome (a is_items) (view text.now self.old) (λ o. ReadItems (view text.now self.old) (view text.now self.new) o) result }
+    fn items(&mut self) -> Result<Option<usize>, Fault>
+        ensures { Outcome (a is_items) (view self.old) (λ o. ReadItems (view self.old) (view self.new) o) result }
     {
         let mut left = None;
         while self.at_item() {
-            left = Some(self.item(text, left)?);
+            left = Some(self.item(left)?);
         }
         Ok(left)
     }
 
     // One item more of a group, joined to what stands to the left of it.
     #[cycle(group_reading)]
-    fn item(&mut self, text: &[u8], left: Option<usize>) -> Result<usize, Fault>
-        requires ready { Ready text.now self.old }
-        requires there { LeftThere self.old left }
-        ensures ready { OnOk result (Ready text.now self.new) }
-        ensures outcome { Outcome (a is_item) (view text.now self.old) (λ i. ReadItem left (view text.now self.old) (view text.now self.new) i) result }
+    fn item(&mut self, left: Option<usize>) -> Result<usize, Fault>
+        requires { LeftThere self.old left }
+        ensures { Outcome (a is_item) (view self.old) (λ i. ReadItem left (view self.old) (view self.new) i) result }
     {
         match self.next.token {
             Token::Optional => {
-                self.expect(text, Token::Optional)?;
+                self.expect(Token::Optional)?;
                 let left = self.or_empty(left);
-                let right = self.group(text)?;
+                let right = self.group()?;
                 Ok(self.add_pattern(PatternNode::Opt(left, right)))
             }
             Token::OpenBrace => {
-                let right = self.groups(text)?;
+                let right = self.groups()?;
                 Ok(self.join(left, right))
             }
             _ => {
-                let right = self.line(text)?;
+                let right = self.line()?;
                 Ok(self.join(left, right))
             }
         }
@@ -65,29 +58,25 @@ impl Reader {
 
     // Groups parted by UNION; one alone is itself.
     #[cycle(group_reading)]
-    fn groups(&mut self, text: &[u8]) -> Result<usize, Fault>
-        requires ready { Ready text.now self.old }
-        ensures ready { OnOk result (Ready text.now self.new) }
-        ensures outcome { PatternRead is_groups (λ t. means t) (view text.now self.old) (view text.now self.new) result }
+    fn groups(&mut self) -> Result<usize, Fault>
+        ensures { PatternRead is_groups (λ t. means t) (view self.old) (view self.new) result }
     {
-        let mut left = self.group(text)?;
+        let mut left = self.group()?;
         while let Token::Union = self.next.token {
-            self.expect(text, Token::Union)?;
-            let right = self.group(text)?;
+            self.expect(Token::Union)?;
+            let right = self.group()?;
             left = self.add_pattern(PatternNode::Union(left, right));
         }
         Ok(left)
     }
 
-    fn line(&mut self, text: &[u8]) -> Result<usize, Fault>
-        requires ready { Ready text.now self.old }
-        ensures ready { OnOk result (Ready text.now self.new) }
-        ensures outcome { PatternRead is_line (λ t. means t) (view text.now self.old) (view text.now self.new) result }
+    fn line(&mut self) -> Result<usize, Fault>
+        ensures { PatternRead is_line (λ t. means t) (view self.old) (view self.new) result }
     {
-        let subject = self.end(text)?;
-        let path = self.path(text)?;
-        let object = self.end(text)?;
-        self.expect(text, Token::Dot)?;
+        let subject = self.end()?;
+        let path = self.path()?;
+        let object = self.end()?;
+        self.expect(Token::Dot)?;
         Ok(self.add_pattern(PatternNode::Line {
             subject,
             path,
@@ -95,22 +84,20 @@ impl Reader {
         }))
     }
 
-    fn end(&mut self, text: &[u8]) -> Result<End, Fault>
-        requires ready { Ready text.now self.old }
-        ensures ready { OnOk result (Ready text.now self.new) }
-        ensures outcome { Outcome (a is_end) (view text.now self.old) (λ x. ReadEnd (view text.now self.old) (view text.now self.new) x) result }
+    fn end(&mut self) -> Result<End, Fault>
+        ensures { Outcome (a is_end) (view self.old) (λ x. ReadEnd (view self.old) (view self.new) x) result }
     {
         match self.next.token {
             Token::Iri => {
-                let iri = self.expect(text, Token::Iri)?;
+                let iri = self.expect(Token::Iri)?;
                 Ok(End::Term(iri))
             }
             Token::Literal => {
-                let literal = self.expect(text, Token::Literal)?;
+                let literal = self.expect(Token::Literal)?;
                 Ok(End::Term(literal))
             }
             _ => {
-                let variable = self.expect(text, Token::Variable)?;
+                let variable = self.expect(Token::Variable)?;
                 Ok(End::Variable(variable))
             }
         }

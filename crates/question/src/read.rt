@@ -2,14 +2,15 @@
 ghost use Rattle.std.specs.Prelude.{◌≡◌, ◌≤◌, length, IfOk, OnOk};
 ghost use Rattle.grammar.specs.Syntax.{nodes as counted};
 ghost use Rattle.question.specs.Answers.{Answer, Verdict, held};
-ghost use Rattle.question.specs.Asking.{asked, asked_at, nothing_asked};
+ghost use Rattle.question.specs.Asking.{asked, nothing_asked};
 
 use crate::draft::Draft;
 use crate::question::Question;
 use crate::reader::Reader;
+use crate::start::AT_REST;
 use grammar::{Fault, Reason, Refusal};
 use std::alloc::{AllocError, Global};
-use tokens::{Lexeme, Token};
+use tokens::Token;
 
 impl Draft {
     // A draft of the empty group. Only this call can fail for want of memory.
@@ -18,15 +19,10 @@ impl Draft {
     {
         let question = Question::reserve(heap)?;
         let built = Question::reserve(heap)?;
-        let next = Lexeme {
-            token: Token::End,
-            start: 0,
-            end: 0,
-        };
         Ok(Draft {
             question,
             reader: Reader {
-                next,
+                next: AT_REST,
                 depth: 0,
                 full: false,
                 built,
@@ -41,13 +37,9 @@ impl Draft {
         if text.len() > 2048 {
             return Err(Refusal::TextTooLong);
         }
-        match self.reader.question(text) {
-            Ok(()) => {
-                std::mem::swap(&mut self.question, &mut self.reader.built);
-                Ok(())
-            }
-            Err(refusal) => Err(refusal),
-        }
+        self.reader.question(text)?;
+        self.reader.give(&mut self.question);
+        Ok(())
     }
 }
 
@@ -58,10 +50,7 @@ impl Reader {
         ensures nodes { OnOk result (self.new.built.nodes ≡ counted (asked self.new.built).pattern) }
     {
         self.start(text);
-        let root = match self.group(text) {
-            Ok(i) => i,
-            Err(fault) => return Err(Refusal::At(fault)),
-        };
+        let root = self.group()?;
         if self.next.token != Token::End {
             return Err(Refusal::At(Fault {
                 reason: Reason::NoQuestion,
@@ -71,18 +60,7 @@ impl Reader {
         if self.full {
             return Err(Refusal::TooManyNodes);
         }
-        self.keep(text, root);
-        Ok(())
-    }
-
-    // A question keeps the text that its parts are of.
-    fn keep(&mut self, text: &[u8], root: usize)
-        requires { length text.now ≤ 2048 }
-        ensures nodes { self.new.built.nodes ≡ self.old.built.nodes }
-        ensures asked { asked self.new.built ≡ asked_at text.now root self.old.built }
-    {
         self.built.root = root;
-        self.built.text.clear();
-        let _ = self.built.text.extend_from_slice(text);
+        Ok(())
     }
 }

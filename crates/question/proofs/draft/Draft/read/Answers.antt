@@ -1,4 +1,5 @@
-use Rattle.std.proofs.Common.{◌≡◌, true, sym, subst}
+use Rattle.std.proofs.Common.{◌≡◌, true, sym, refl, subst}
+use Rattle.std.proofs.lemmas.Result.{err_from_is_err_and}
 use Rattle.grammar.specs.Syntax.{nodes}
 use Rattle.grammar.specs.Numbered.{distinct}
 use Rattle.grammar.specs.Reading.{Question}
@@ -6,9 +7,14 @@ use Rattle.grammar.proofs.Naming.{numbers_are_faithful}
 use Rattle.question.specs.Asking.{asked}
 use Rattle.question.proofs.draft.Draft.read.Goals as goal
 
-pub invariant_of-self : goal.invariant_of-self
-invariant_of-self c =
-    let read = c.in-Ok.ensures in record { nodes = subst (λ q. q.nodes ≡ nodes (asked q).pattern) (sym c.swap.ensures.x_after) read.nodes; distinct = subst (λ q. distinct (asked q).names ≡ true) (sym c.swap.ensures.x_after) (numbers_are_faithful c.args.text.now _ read.verdict).distinct }
+pub invariant_of-self-2 : goal.invariant_of-self-2
+invariant_of-self-2 c =
+    let read = c.in_ok-question.ensures in record { nodes = subst (λ q. q.nodes ≡ nodes (asked q).pattern) (sym c.give.ensures) read.nodes; distinct = subst (λ q. distinct (asked q).names ≡ true) (sym c.give.ensures) (numbers_are_faithful c.args.text.now _ read.verdict).distinct }
 
-pub returns-in-Ok : goal.returns-in-Ok
-returns-in-Ok c = subst (λ q. Question c.args.text.now (asked q)) (sym c.swap.ensures.x_after) c.in-Ok.ensures.verdict
+pub returns : goal.returns
+returns c = subst (λ q. Question c.args.text.now (asked q)) (sym c.give.ensures) c.in_ok-question.ensures.verdict
+
+pub returns-in_err-question : goal.returns-in_err-question
+returns-in_err-question c =
+    let p = err_from_is_err_and c.from_residual.result c.from_residual.ensures.1 in
+    rw (p.1, p.2) (c.in_err-question.ensures.verdict, refl)

@@ -1,21 +1,15 @@
 use Rattle.std.proofs.lemmas.Result.{err_from_is_err_and}
-use Rattle.question.proofs.Taking.{points, elsewhere, ready_same}
+use Rattle.question.proofs.Taking.{points, elsewhere}
 use Rattle.question.proofs.PathParts.{star_read, once_read, star_fails}
 use Rattle.question.proofs.reader.Reader.suffix.Goals as goal
 
 pub returns-in_err-expect-in-Star : goal.returns-in_err-expect-in-Star
 returns-in_err-expect-in-Star c =
     let p = err_from_is_err_and c.from_residual.result c.from_residual.ensures.1 in
-    rw (p.1, p.2) (record { ready = tt; outcome = record { is = star_fails (points c.args.text.now c.args.self.now.next c.in-Star.is) c.in_err-expect-in-Star.ensures.outcome.is } })
+    rw (p.1, p.2) (record { is = star_fails (points c.args.self.now c.in-Star.is) c.in_err-expect-in-Star.ensures.is })
 
 pub returns-in_ok-expect-in-Star : goal.returns-in_ok-expect-in-Star
-returns-in_ok-expect-in-Star c = record {
-  ready = ready_same c.add_path.ensures.same c.in_ok-expect-in-Star.ensures.ready;
-  outcome = record { is = star_read (points c.args.text.now c.args.self.now.next c.in-Star.is) c.in_ok-expect-in-Star.ensures.outcome.is (c.add_path.ensures.placed c.args.text.now) };
-}
+returns-in_ok-expect-in-Star c = record { is = star_read (points c.args.self.now c.in-Star.is) c.in_ok-expect-in-Star.ensures.is c.add_path.ensures }
 
 pub returns-in_default : goal.returns-in_default
-returns-in_default c = record {
-  ready = c.requires.ready;
-  outcome = record { is = once_read c.args.base (elsewhere c.args.text.now c.args.self.now.next c.in_default.not-Star) };
-}
+returns-in_default c = record { is = once_read c.args.base (elsewhere c.args.self.now c.in_default.not-Star) }
