@@ -1,5 +1,5 @@
 -- What is kept of a word that is within its limits.
-use Rattle.std.proofs.Common.{◌≡◌, ℕ, ◌<◌, ◌≤◌, false, cond, ltb, List, [], ◌∷◌, ◌++◌, map, length, Some, None, Ok, Err, vec_items, Option, sym, refl, ap, ◌∙◌, subst, arith, le-ltb, lt-ltb, le-leb}
+use Rattle.std.proofs.Common.{◌≡◌, ℕ, ◌<◌, ◌≤◌, true, false, cond, ltb, List, [], ◌∷◌, ◌++◌, map, length, Some, None, Ok, Err, vec_items, Option, sym, refl, ap, ◌∙◌, subst, arith, le-ltb, lt-ltb, le-leb}
 use borrow.Author.Tests.{lt-leb}
 use lib.ListN.{length-map}
 use Rattle.std.proofs.lemmas.List.{map_push}
@@ -20,6 +20,8 @@ use Rattle.question.specs.Arena.{name_of, term_of}
 use Rattle.question.specs.Views.{text_of, seen_of, view, Idle, Stands}
 use Rattle.question.proofs.Bytes.{Finds}
 use Rattle.question.specs.Admission.{term_word, Admission}
+use Rattle.grammar.specs.Numbered.{distinct}
+use Rattle.grammar.proofs.Numbering.{gathered_distinct}
 use Rattle.question.proofs.Holding.{stands_last}
 
 pub within : (most n : ℕ) → n ≤ most → at_most most n ≡ None
@@ -145,6 +147,10 @@ module _ {a b : Reader} (h : Beside a b) (deep : b.depth ≡ a.depth) where
         (ap (λ b. cond b None (at_names x (seen_of a))) found.0)
         (same ∙ sym (ap (λ b. cond b (seen_of a).names ((seen_of a).names ++ x ∷ [])) found.0))
         (subst (λ l. Stands l n x) (sym same) found.1)
+
+-- a new name is none of those before
+pub still_distinct : (x : Name) (s : Seen) → distinct s.names ≡ true → known x s.names ≡ false → distinct (s.names ++ x ∷ []) ≡ true
+still_distinct x s d un = subst (λ b. distinct (cond b s.names (s.names ++ x ∷ [])) ≡ true) un (gathered_distinct s (name x ∷ []) d)
 
 -- ---- words over a limit
 

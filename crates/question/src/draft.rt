@@ -1,6 +1,5 @@
 // The place that questions are read into.
-ghost use Rattle.std.specs.Prelude.{◌≡◌, true};
-ghost use Rattle.grammar.specs.Numbered.{distinct as apart};
+ghost use Rattle.std.specs.Prelude.{◌≡◌};
 ghost use Rattle.grammar.specs.Syntax.{nodes as counted};
 ghost use Rattle.question.specs.Asking.{asked};
 
@@ -13,5 +12,4 @@ pub struct Draft {
     pub(crate) question: Question,
     pub(crate) reader: Reader,
     ghost nodes: { question.nodes ≡ counted (asked question).pattern },
-    ghost distinct: { apart (asked question).names ≡ true },
 }

@@ -1,5 +1,7 @@
 // A question: its text, the terms and names that are parts of it, and its tree.
-ghost use Rattle.std.specs.Prelude.{ℕ, ◌+◌, ◌≤◌, vec_len, vec_capacity, slice_index_or};
+ghost use Rattle.std.specs.Prelude.{◌≡◌, ℕ, ◌+◌, ◌≤◌, true, map, vec_len, vec_capacity, slice_index_or};
+ghost use Rattle.grammar.specs.Numbered.{distinct as apart};
+ghost use Rattle.question.specs.Arena.{name_of};
 ghost use Rattle.question.specs.declared.node.PathNode.TheVariants.{Negated};
 ghost use Rattle.question.specs.declared.node.PatternNode.TheVariants.{Empty};
 ghost use Rattle.question.specs.Behind.{path_from, path_terms, pattern_from, pattern_paths, pattern_terms, pattern_names};
@@ -32,6 +34,8 @@ pub struct Question {
     ghost few: { nodes ≤ 64 },
     ghost counted: { vec_len paths + vec_len patterns ≤ nodes },
     ghost eight: { vec_len names ≤ 8 },
+    // No two names are equal.
+    ghost distinct: { apart (map (name_of text.items) names.items) ≡ true },
     // Every node stands behind its children, and what it names is there.
     ghost paths_from: { ((i : ℕ) → path_from (slice_index_or paths.items i (Negated 0 0)) ≤ i) },
     ghost paths_terms: { ((i : ℕ) → path_terms (slice_index_or paths.items i (Negated 0 0)) ≤ vec_len terms) },

@@ -1,15 +1,13 @@
-use Rattle.std.proofs.Common.{◌≡◌, true, sym, refl, subst}
+use Rattle.std.proofs.Common.{◌≡◌, sym, refl, subst}
 use Rattle.std.proofs.lemmas.Result.{err_from_is_err_and}
 use Rattle.grammar.specs.Syntax.{nodes}
-use Rattle.grammar.specs.Numbered.{distinct}
 use Rattle.grammar.specs.Reading.{Question}
-use Rattle.grammar.proofs.Naming.{numbers_are_faithful}
 use Rattle.question.specs.Asking.{asked}
 use Rattle.question.proofs.draft.Draft.read.Goals as goal
 
 pub invariant_of-self-2 : goal.invariant_of-self-2
 invariant_of-self-2 c =
-    let read = c.in_ok-question.ensures in record { nodes = subst (λ q. q.nodes ≡ nodes (asked q).pattern) (sym c.give.ensures) read.nodes; distinct = subst (λ q. distinct (asked q).names ≡ true) (sym c.give.ensures) (numbers_are_faithful c.args.text.now _ read.verdict).distinct }
+    let read = c.in_ok-question.ensures in record { nodes = subst (λ q. q.nodes ≡ nodes (asked q).pattern) (sym c.give.ensures) read.nodes }
 
 pub returns : goal.returns
 returns c = subst (λ q. Question c.args.text.now (asked q)) (sym c.give.ensures) c.in_ok-question.ensures.verdict
