@@ -3,7 +3,7 @@ use Rattle.std.proofs.Common.{◌≡◌, ℕ, zero, suc, ◌<◌, ◌≤◌, Boo
 use lib.Bits.{bit_or, bit_and}
 use Rattle.std.proofs.lemmas.List.{get_or_default}
 use Rattle.grammar.specs.Judged.{sure_mask, judged}
-use Rattle.grammar.specs.Numbered.{numbered, distinct}
+use Rattle.grammar.specs.Numbered.{numbered}
 use Rattle.grammar.specs.Walkable.{walkable}
 use Rattle.question.specs.declared.question.Question.{Question}
 use Rattle.question.specs.declared.node.PathNode.{PathNode}
@@ -62,15 +62,15 @@ record SameNode (numbers : List ℕ) (q : Question) (n : PatternNode) : Type 0 w
   verdict : (m : ℕ) → judged (meant_pattern (by_number numbers q) (meant_patterns (by_number numbers q) (vec_items q.patterns)) n) m ≡ judged (numbered (asked q).names (meant_pattern (env_of_names (env_of q)) (meant_patterns (env_of_names (env_of q)) (vec_items q.patterns)) n)) m
   mask : sure_mask (meant_pattern (by_number numbers q) (meant_patterns (by_number numbers q) (vec_items q.patterns)) n) ≡ sure_mask (numbered (asked q).names (meant_pattern (env_of_names (env_of q)) (meant_patterns (env_of_names (env_of q)) (vec_items q.patterns)) n))
 
-same_pattern_node : (numbers : List ℕ) (q : Question) (i : ℕ) (n : PatternNode) → distinct (asked q).names ≡ true → pattern_from n ≤ i → pattern_names n ≤ length (asked q).names → ((j : ℕ) → j < i → SamePattern numbers q j) → SameNode numbers q n
-same_pattern_node numbers q i pattern.Empty d le names h = record { verdict = λ m. refl; mask = refl }
-same_pattern_node numbers q i (pattern.Line a p b) d le names h =
+same_pattern_node : (numbers : List ℕ) (q : Question) (i : ℕ) (n : PatternNode) → pattern_from n ≤ i → pattern_names n ≤ length (asked q).names → ((j : ℕ) → j < i → SamePattern numbers q j) → SameNode numbers q n
+same_pattern_node numbers q i pattern.Empty le names h = record { verdict = λ m. refl; mask = refl }
+same_pattern_node numbers q i (pattern.Line a p b) le names h =
     let f = (by_number numbers q).term in
     record {
-      verdict = λ m. ap₂ (walkable ((by_number numbers q).path p)) (fixed_as f q a m d (omega arith)) (fixed_as f q b m d (omega arith)) ∙ same_walk f (env_of q).term q p _ _;
-      mask = ap₂ bit_or (mask_as f q a d (omega arith)) (mask_as f q b d (omega arith));
+      verdict = λ m. ap₂ (walkable ((by_number numbers q).path p)) (fixed_as f q a m (omega arith)) (fixed_as f q b m (omega arith)) ∙ same_walk f (env_of q).term q p _ _;
+      mask = ap₂ bit_or (mask_as f q a (omega arith)) (mask_as f q b (omega arith));
     }
-same_pattern_node numbers q i (pattern.And p r) d le names h =
+same_pattern_node numbers q i (pattern.And p r) le names h =
     let x = h p (omega arith) in
     let y = h r (omega arith) in
     record {
@@ -78,11 +78,11 @@ same_pattern_node numbers q i (pattern.And p r) d le names h =
           (ap₂ ◌&&◌ (y.0 m) (x.0 (bit_or m (sure_mask (asks_by numbers q r))) ∙ ap (λ s. judged (asks_at q p) (bit_or m s)) y.1));
       mask = ap₂ bit_or x.1 y.1;
     }
-same_pattern_node numbers q i (pattern.Union p r) d le names h =
+same_pattern_node numbers q i (pattern.Union p r) le names h =
     let x = h p (omega arith) in
     let y = h r (omega arith) in
     record { verdict = λ m. ap₂ ◌&&◌ (ap₂ ◌&&◌ (x.0 m) (y.0 m)) (ap₂ eqb x.1 y.1); mask = ap₂ bit_and x.1 y.1 }
-same_pattern_node numbers q i (pattern.Opt p r) d le names h =
+same_pattern_node numbers q i (pattern.Opt p r) le names h =
     let x = h p (omega arith) in
     let y = h r (omega arith) in
     record { verdict = λ m. ap₂ ◌&&◌ (x.0 m) (y.0 (sure_mask (asks_by numbers q p)) ∙ ap (judged (asks_at q r)) x.1); mask = x.1 }
@@ -90,9 +90,9 @@ same_pattern_node numbers q i (pattern.Opt p r) d le names h =
 pattern_there : (q : Question) (i : ℕ) → i < length (vec_items q.patterns) → PatternThere q i (get_or (vec_items q.patterns) i pattern.Empty)
 pattern_there q i lt = (get_or (vec_items q.patterns) i pattern.Empty, refl, record { within = lt; is = λ d. get_or_default (vec_items q.patterns) i d pattern.Empty lt })
 
-below_pattern : (numbers : List ℕ) (q : Question) → distinct (asked q).names ≡ true → (n i : ℕ) → i < n → SamePattern numbers q i
-below_pattern numbers q d zero i lt = absurd (omega arith)
-below_pattern numbers q d (suc n) i lt = go (ltb i (length (vec_items q.patterns))) refl (λ j below. below_pattern numbers q d n j (omega arith))
+below_pattern : (numbers : List ℕ) (q : Question) (n i : ℕ) → i < n → SamePattern numbers q i
+below_pattern numbers q zero i lt = absurd (omega arith)
+below_pattern numbers q (suc n) i lt = go (ltb i (length (vec_items q.patterns))) refl (λ j below. below_pattern numbers q n j (omega arith))
   where
     go : (b : Bool) → ltb i (length (vec_items q.patterns)) ≡ b → ((j : ℕ) → j < i → SamePattern numbers q j) → SamePattern numbers q i
     go false e h =
@@ -105,12 +105,12 @@ below_pattern numbers q d (suc n) i lt = go (ltb i (length (vec_items q.patterns
         let t = pattern_there q i (ltb-true i (length (vec_items q.patterns)) e) in
         let x = pattern_is_lem (by_number numbers q) q i node t in
         let y = ap (numbered (asked q).names) (pattern_is_lem (env_of_names (env_of q)) q i node t) in
-        let same = same_pattern_node numbers q i node d (pattern_behind q i node t) (ends_there q i node node t refl) h in
+        let same = same_pattern_node numbers q i node (pattern_behind q i node t) (ends_there q i node node t refl) h in
         ((λ m. ap (λ p. judged p m) x ∙ same.verdict m ∙ sym (ap (λ p. judged p m) y)), ap sure_mask x ∙ same.mask ∙ sym (ap sure_mask y))
 
 -- a verdict on names is one on numbers
-pub judges_numbers : (numbers : List ℕ) (q : Question) → distinct (asked q).names ≡ true → (i m : ℕ) (r : Option ℕ) → Judges (asks_at q i) m r → Judges (asks_by numbers q i) m r
-judges_numbers numbers q d i m None h = (below_pattern numbers q d (suc i) i (omega arith)).0 m ∙ h
-judges_numbers numbers q d i m (Some s) h =
-    let same = below_pattern numbers q d (suc i) i (omega arith) in
+pub judges_numbers : (numbers : List ℕ) (q : Question) (i m : ℕ) (r : Option ℕ) → Judges (asks_at q i) m r → Judges (asks_by numbers q i) m r
+judges_numbers numbers q i m None h = (below_pattern numbers q (suc i) i (omega arith)).0 m ∙ h
+judges_numbers numbers q i m (Some s) h =
+    let same = below_pattern numbers q (suc i) i (omega arith) in
     (same.0 m ∙ h.0, h.1 ∙ sym same.1)

@@ -1,7 +1,7 @@
 // The place of the question that may be walked.
 ghost use Rattle.std.specs.Prelude.{◌≡◌, true};
 ghost use Rattle.grammar.specs.Judged.{judged};
-ghost use Rattle.grammar.specs.Numbered.{asks, distinct as apart};
+ghost use Rattle.grammar.specs.Numbered.{asks};
 ghost use Rattle.question.specs.Asking.{asked};
 
 use question::Question;
@@ -11,5 +11,4 @@ use question::Question;
 pub struct Judged {
     pub(crate) question: Question,
     ghost bounded: { judged (asks (asked question)) 0 ≡ true },
-    ghost distinct: { apart (asked question).names ≡ true },
 }

@@ -1,6 +1,5 @@
 // The sure variables of a pattern, where it is bounded by those that are fixed. A node's parts stand before it, so the index falls.
-ghost use Rattle.std.specs.Prelude.{◌≡◌, ◌≤◌, true, length};
-ghost use Rattle.grammar.specs.Numbered.{distinct};
+ghost use Rattle.std.specs.Prelude.{◌≡◌, ◌≤◌, length};
 ghost use Rattle.grammar.specs.Syntax.{and, union, opt};
 ghost use Rattle.question.specs.Asking.{asked};
 ghost use Rattle.question.specs.Behind.{end_names};
@@ -12,7 +11,6 @@ use question::{End, PatternNode, Question};
 
 #[cycle(pattern_verdict)]
 pub(crate) fn judge(q: &Question, index: usize, fixed: u8) -> Option<u8>
-    requires distinct { distinct (asked q.now).names ≡ true }
     ensures { Judges (asks_at q.now index) fixed result }
 {
     let Some(node) = q.pattern(index) else {
@@ -32,7 +30,6 @@ pub(crate) fn judge(q: &Question, index: usize, fixed: u8) -> Option<u8>
 }
 
 fn judge_line(q: &Question, subject: End, path: usize, object: End, fixed: u8) -> Option<u8>
-    requires distinct { distinct (asked q.now).names ≡ true }
     requires subject { end_names subject ≤ length (asked q.now).names }
     requires object { end_names object ≤ length (asked q.now).names }
     ensures { Judges (line_at q.now subject path object) fixed result }
@@ -47,7 +44,6 @@ fn judge_line(q: &Question, subject: End, path: usize, object: End, fixed: u8) -
 // The left side first where it is bounded so: then the right side decides. Else the right side must help the left.
 #[cycle(pattern_verdict)]
 fn judge_and(q: &Question, left: usize, right: usize, fixed: u8) -> Option<u8>
-    requires distinct { distinct (asked q.now).names ≡ true }
     ensures { Judges (and (asks_at q.now left) (asks_at q.now right)) fixed result }
 {
     match judge(q, left, fixed) {
@@ -68,7 +64,6 @@ fn judge_and(q: &Question, left: usize, right: usize, fixed: u8) -> Option<u8>
 
 #[cycle(pattern_verdict)]
 fn judge_union(q: &Question, left: usize, right: usize, fixed: u8) -> Option<u8>
-    requires distinct { distinct (asked q.now).names ≡ true }
     ensures { Judges (union (asks_at q.now left) (asks_at q.now right)) fixed result }
 {
     let one = judge(q, left, fixed)?;
@@ -83,7 +78,6 @@ fn judge_union(q: &Question, left: usize, right: usize, fixed: u8) -> Option<u8>
 // The optional side gets what the left side gives, and nothing else.
 #[cycle(pattern_verdict)]
 fn judge_opt(q: &Question, left: usize, right: usize, fixed: u8) -> Option<u8>
-    requires distinct { distinct (asked q.now).names ≡ true }
     ensures { Judges (opt (asks_at q.now left) (asks_at q.now right)) fixed result }
 {
     let given = judge(q, left, fixed)?;

@@ -9,16 +9,16 @@ judge-returns-in_default t c = nothing_judged c.args.q.now c.args.index c.args.f
 pub judge-judge_line-requires : goal.judge-judge_line-requires
 judge-judge_line-requires t c =
     let there = ends_there c.args.q.now c.args.index _ _ c.in-Some.ensures c.in-Line.is in
-    record { distinct = c.requires.distinct; subject = omega (arith, there); object = omega (arith, there) }
+    record { subject = omega (arith, there); object = omega (arith, there) }
 
 pub judge-judge_and-requires : goal.judge-judge_and-requires
-judge-judge_and-requires t c = (omega (arith, c.decreases, pattern_above c.args.q.now c.args.index _ _ c.in-Some.ensures c.in-And.is), c.requires.distinct)
+judge-judge_and-requires t c = (omega (arith, c.decreases, pattern_above c.args.q.now c.args.index _ _ c.in-Some.ensures c.in-And.is), tt)
 
 pub judge-judge_union-requires : goal.judge-judge_union-requires
-judge-judge_union-requires t c = (omega (arith, c.decreases, pattern_above c.args.q.now c.args.index _ _ c.in-Some.ensures c.in-Union.is), c.requires.distinct)
+judge-judge_union-requires t c = (omega (arith, c.decreases, pattern_above c.args.q.now c.args.index _ _ c.in-Some.ensures c.in-Union.is), tt)
 
 pub judge-judge_opt-requires : goal.judge-judge_opt-requires
-judge-judge_opt-requires t c = (omega (arith, c.decreases, pattern_above c.args.q.now c.args.index _ _ c.in-Some.ensures c.in-Opt.is), c.requires.distinct)
+judge-judge_opt-requires t c = (omega (arith, c.decreases, pattern_above c.args.q.now c.args.index _ _ c.in-Some.ensures c.in-Opt.is), tt)
 
 pub judge-returns-in-Empty : goal.judge-returns-in-Empty
 judge-returns-in-Empty t c = judges_as c.args.q.now c.args.index _ _ c.in-Some.ensures c.in-Empty.is c.args.fixed (Some 0) (refl, refl)
