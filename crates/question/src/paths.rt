@@ -1,6 +1,5 @@
 // Reads property paths. Each function reads one kind of the grammar, from the next token on. `path`, `sequence` and `groups` stay apart though
-// they look alike: one function of the sign, the part and the node would call the part through a parameter, and a cycle of calls through a
-// parameter gets no proof; by an enum it would need three matches to say which of the three it is.
+// they look alike: one function of them would be told by an enum of three which it is, and match on it for the sign, the part and the node.
 ghost use Rattle.std.specs.Prelude.{◌+◌, ◌-◌, ◌≤◌, vec_len};
 ghost use Rattle.question.specs.declared.node.PathNode.TheVariants.{Negated};
 ghost use Rattle.grammar.specs.Grammar.{means, is_base, is_members, is_negation, is_path, is_sequence, is_step, is_suffix};
