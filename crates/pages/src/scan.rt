@@ -16,7 +16,7 @@ pub struct Seen<'a> {
     pub behind: Lines<'a>,
 }
 
-// Passes lines until one opens the page of an address. `Iterator::find` was tried: no proof of the clause was found in ten minutes.
+// Passes lines until one opens the page of an address. The lines behind are what is wanted, so the cursor is asked line by line.
 fn find<'a>(from: Lines<'a>, address: &[u8]) -> Option<Lines<'a>>
     ensures { MatchOption result (lines_on address.now from.entry.passed None (lines_of from.entry.rest.now) ≡ []) (λ l. Opened address.now from.entry.passed from.entry.rest.now l.passed l.rest.now) }
 {

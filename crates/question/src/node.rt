@@ -1,4 +1,5 @@
-// The nodes of a question's tree. Paths and patterns stand in an arena each, every node behind its children, which it names by index.
+// The nodes of a question's tree. Paths and patterns stand in an arena each, every node behind its children, which it names by index. An arena and no
+// boxes, by a rule of the project: a tree has 64 nodes at most, in memory that is reserved once.
 
 // An end of a line: a term of the question, or a variable, by number.
 #[derive(Clone, Copy)]

@@ -5,7 +5,8 @@ ghost use Rattle.tokens.specs.Runs.{passes};
 
 use terms::{is_blank, is_iri_byte, is_literal_byte, is_word_byte};
 
-// The bytes between tokens, in an IRI, in a literal, and in a variable or a keyword.
+// The bytes between tokens, in an IRI, in a literal, and in a variable or a keyword. They go by a name: a test that is passed as a closure would bring
+// what it decides into the clause of each run.
 #[derive(Clone, Copy)]
 pub enum Class {
     Blank,
