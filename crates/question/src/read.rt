@@ -37,9 +37,13 @@ impl Draft {
         if text.len() > 2048 {
             return Err(Refusal::TextTooLong);
         }
-        self.reader.question(text)?;
-        self.reader.give(&mut self.question);
-        Ok(())
+        match self.reader.question(text) {
+            Ok(()) => {
+                self.reader.give(&mut self.question);
+                Ok(())
+            }
+            Err(refusal) => Err(refusal),
+        }
     }
 }
 
