@@ -53,6 +53,13 @@ impl Question {
         Some(name.of(self.text.as_slice()))
     }
 
+    // How many terms the text has, as often as they stand there.
+    pub fn terms(&self) -> usize
+        ensures { result ≡ length (asked self.now).terms }
+    {
+        self.terms.len()
+    }
+
     // A term's kind and bytes, by its number.
     pub fn term(&self, number: usize) -> Option<(Kind, &[u8])>
         ensures { Told (λ x y. term_told x.0 x.1.now ≡ y) (asked self.now).terms number result }

@@ -37,6 +37,7 @@ impl Draft {
         if text.len() > 2048 {
             return Err(Refusal::TextTooLong);
         }
+        // A branch for each answer, and no `?`, so that what becomes of the draft after a refusal is there to be read.
         match self.reader.question(text) {
             Ok(()) => {
                 self.reader.give(&mut self.question);
