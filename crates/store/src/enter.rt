@@ -22,14 +22,13 @@ impl TermsUnfit {
     }
 }
 
-// A question tells a term by its place, and not how many it has, so the places are counted here.
+// Every place below the number of terms has one.
 fn enter_all(terms: &mut Lexicon, question: &Question) -> Option<()>
     ensures { Entering (held terms.old) (asked question.now).terms (is_some result) (held terms.new) }
 {
-    let mut place = 0;
-    while let Some((kind, bytes)) = question.term(place) {
+    for place in 0..question.terms() {
+        let (kind, bytes) = question.term(place)?;
         terms.enter(kind, bytes)?;
-        place += 1;
     }
     Some(())
 }
@@ -39,10 +38,10 @@ fn number_all(terms: &Lexicon, question: &Question, numbers: &mut Room<u16, 2048
     ensures { items numbers.new ≡ map (number_of (held terms.now)) (asked question.now).terms }
 {
     numbers.clear();
-    let mut place = 0;
-    while let Some((kind, bytes)) = question.term(place) {
-        let _ = numbers.push(terms.number(kind, bytes).unwrap_or(0));
-        place += 1;
+    for place in 0..question.terms() {
+        if let Some((kind, bytes)) = question.term(place) {
+            let _ = numbers.push(terms.number(kind, bytes).unwrap_or(0));
+        }
     }
 }
 
