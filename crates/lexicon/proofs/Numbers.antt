@@ -101,16 +101,6 @@ number_front (t ∷ ts) x u h = go (same_term t u) h (λ p. number_front ts x u 
     go true h r = refl
     go false h r = ap one_on (r (on_some (number_of ts u) h).0)
 
-pub number_most : (ts : List Term) (u : Term) → number_of ts u ≤ length ts
-unfolding number_of
-number_most [] u = omega arith
-number_most (t ∷ ts) u = go (same_term t u) (number_of ts u) (number_most ts u)
-  where
-    go : (b : Bool) (n : ℕ) → n ≤ length ts → cond b 1 (one_on n) ≤ suc (length ts)
-    go true n h = omega arith
-    go false zero h = omega arith
-    go false (suc n) h = omega arith
-
 -- a term that is not there and goes behind the others
 pub number_behind : (ts : List Term) (t : Term) → number_of ts t ≡ 0 → number_of (ts ++ t ∷ []) t ≡ suc (length ts)
 unfolding number_of

@@ -58,7 +58,7 @@ impl Lexicon {
         self.kinds.as_slice()[place] == kind && self.bytes_at(place) == bytes
     }
 
-    // The number of a term, if it is there.
+    // The number of a term, if it is there. By place, since kind and part stand in a list each, and the bytes in the text.
     pub fn number(&self, kind: Kind, bytes: &[u8]) -> Option<u16>
         ensures { result ≡ told_number (number_of (held self.now) (the kind bytes.now)) }
     {

@@ -31,16 +31,6 @@ pub no_iri : (s : State) (ws : List Bool) (n : ℕ) → wanted_at ws n ≡ true 
 unfolding missing
 no_iri s ws n e f = ap₂ (λ (a b : Bool). a && b && not (is_some (first_where (is_of n) s.entries))) e f
 
-not_not : (b : Bool) → b ≡ not (not b)
-not_not true = refl
-not_not false = refl
-
-pub is_new : (s : State) (ws : List Bool) (n : ℕ) (r : Option ℕ) (b : Bool) → wanted_at ws n ≡ true → is_some (address_of (term_at s.terms n)) ≡ true → r ≡ first_where (is_of n) s.entries → is_some r ≡ not b → b ≡ missing s ws n
-unfolding missing
-is_new s ws n r b e f g h =
-    let last : b ≡ not (is_some (first_where (is_of n) s.entries)) = not_not b ∙ ap not (sym h ∙ ap is_some g) in
-    last ∙ sym (ap₂ (λ (x y : Bool). x && y && not (is_some (first_where (is_of n) s.entries))) e f)
-
 -- what is missing has a term
 no_term_lem : (s : State) (ws : List Bool) (n : ℕ) → term_at s.terms n ≡ None → missing s ws n ≡ false
 no_term_lem s ws n e = go (wanted_at ws n) refl

@@ -12,7 +12,7 @@ use Rattle.shelf.specs.declared.items.Listed.{Listed}
 use Rattle.web.specs.Laws.{Lawful, is_kind_iri, lawful_iri, lawful_triple, lawful_triples}
 use Rattle.web.specs.declared.answers.Written.{Written}
 use Rattle.terms.specs.declared.unwritten.Unwritten.{Unwritten}
-use Rattle.terms.specs.declared.unwritten.Unwritten.TheVariants.{NoSuch, TooShort}
+use Rattle.terms.specs.declared.unwritten.Unwritten.TheVariants.{TooShort}
 use Rattle.web.specs.Answers.{answer, tells, leaves, written}
 use Rattle.web.specs.Meaning.{Triple, Looked, found, absent, broken, cell, listed, part_of, told, triples, Mark as Cause}
 use Rattle.std.proofs.lemmas.List.{take_more, map_push}
@@ -32,14 +32,6 @@ err_ok u w e = let z : ◌≡◌ {A = ℕ} 0 1 = cc in absurd (omega arith)
 ok_is : (v w : Written) → ◌≡◌ {A = Result Written Unwritten} (Ok v) (Ok w) → v ≡ w
 ok_is v w e = cc
 
-pub read_within : (o : Option Term) (buffer : List ℕ) (w : Written) → Ok w ≡ tells o buffer → w.length ≤ length buffer
-read_within None buffer w e = err_ok NoSuch w e
-read_within (Some t) buffer w e = go (leb (length t.bytes) (length buffer)) refl
-  where
-    go : (b : Bool) → leb (length t.bytes) (length buffer) ≡ b → w.length ≤ length buffer
-    go true f = omega (arith, leb-true _ _ f, ap (λ (v : Written). v.length) (ok_is w (written t) (e ∙ ap (λ b. cond b (Ok (written t)) (Err TooShort)) f)))
-    go false f = err_ok TooShort w (e ∙ ap (λ b. cond b (Ok (written t)) (Err TooShort)) f)
-
 -- what stands at the buffer's front is the term
 pub read_term : (o : Option Term) (t : Term) (buffer out : List ℕ) (w : Written) → o ≡ Some t → length t.bytes ≤ length buffer → Ok w ≡ tells o buffer → out ≡ leaves o buffer → term w.kind (take w.length out) ≡ t
 read_term o t buffer out w e h ew eo =
@@ -47,12 +39,6 @@ read_term o t buffer out w e h ew eo =
     let v : w ≡ written t = ok_is w (written t) (ew ∙ ap (λ p. tells p buffer) e ∙ ap (λ b. cond b (Ok (written t)) (Err TooShort)) f) in
     let x : out ≡ t.bytes ++ drop (length t.bytes) buffer = eo ∙ ap (λ p. leaves p buffer) e ∙ ap (λ b. cond b (t.bytes ++ drop (length t.bytes) buffer) buffer) f in
     ap₂ (λ (y : Written) (l : List ℕ). term y.kind (take y.length l)) v x ∙ ap (term t.kind) (take_at t.bytes (drop (length t.bytes) buffer) (length t.bytes) refl)
-
--- a term that can be read is not refused
-pub read_some : (o : Option Term) (t : Term) (buffer : List ℕ) (u : Unwritten) → {X : Type 0} → o ≡ Some t → length t.bytes ≤ length buffer → Err u ≡ tells o buffer → X
-read_some o t buffer u e h f =
-    let g : leb (length t.bytes) (length buffer) ≡ true = le-leb _ _ h in
-    err_ok u (written t) (sym (f ∙ ap (λ p. tells p buffer) e ∙ ap (λ b. cond b (Ok (written t)) (Err TooShort)) g))
 
 -- ---- the terms of one triple
 
@@ -191,9 +177,6 @@ listed_front ts y (x ∷ xs) k =
 
 -- ---- the loop
 
-pub gathered_none : (ts : List Term) (ls : List Listed) (xs : List Triple) → Gathered ts ls (take 0 xs) ts ls
-gathered_none ts ls xs = record { terms = refl; triples = sym (append-nil ls) }
-
 -- what enters now, if all three do
 pub record Three (us : List Term) (x : Triple) (a b d : ℕ) (vs : List Term) : Type 0 where
   pub terms : vs ≡ three us x
@@ -290,16 +273,6 @@ found_so (found xs) o n d e = (xs, refl, cc)
 found_so absent o n d e = let z : ◌≡◌ {A = ℕ} 0 1 = cc in absurd (omega arith)
 found_so (broken c) o n d e = let z : ◌≡◌ {A = ℕ} 0 1 = cc in absurd (omega arith)
 
-pub absent_so : {C : Type 0} (l : Looked C) → Ok None ≡ answer l → l ≡ absent
-absent_so (found xs) e = let z : ◌≡◌ {A = ℕ} 0 1 = cc in absurd (omega arith)
-absent_so absent e = refl
-absent_so (broken c) e = let z : ◌≡◌ {A = ℕ} 0 1 = cc in absurd (omega arith)
-
-pub broken_so : {C : Type 0} (l : Looked C) (c : C) → Err c ≡ answer l → l ≡ broken c
-broken_so (found xs) c e = let z : ◌≡◌ {A = ℕ} 0 1 = cc in absurd (omega arith)
-broken_so absent c e = let z : ◌≡◌ {A = ℕ} 0 1 = cc in absurd (omega arith)
-broken_so (broken d) c e = cc
-
 -- ---- what is kept of it
 
 pub fetched_found : {C : Type 0} (mk : C → Cause) (l : Looked C) (xs : List Triple) (n : ℕ) (ts us : List Term) (ls ms : List Listed) → l ≡ found xs → n ≡ length xs → length ls + n ≤ 4096 → Gathering ts ls xs true us ms → Fetched (told mk l) ts ls (Mark.Found n) us ms
@@ -334,18 +307,6 @@ fetched_back {C} mk l xs ts us vs ls ms os m n e g em ev en eo =
     let z : true ≡ false = sym (fits_is _ xs f).1 ∙ g.0 in
     let y : ◌≡◌ {A = ℕ} 0 1 = cc in omega (arith, y))) in
     subst (λ (q : List Term). Fetched (told mk l) ts ls Mark.Unfit q os) (sym v) (subst (λ (q : List Listed). Fetched (told mk l) ts ls Mark.Unfit ts q) (sym o) w)
-
-pub fetched_absent : {C : Type 0} (mk : C → Cause) (l : Looked C) (ts : List Term) (ls : List Listed) → l ≡ absent → Fetched (told mk l) ts ls Mark.Absent ts ls
-fetched_absent {C} mk l ts ls e = record { kept = λ k es. sym (ap (λ (o : Looked C). noted (told mk o) k (record { terms = ts; entries = es; triples = ls })) e); grows = omega arith; few = λ f. f }
-
-pub fetched_broken : {C : Type 0} (mk : C → Cause) (l : Looked C) (c : C) (code place : ℕ) (ts : List Term) (ls : List Listed) → l ≡ broken c → code ≡ (mk c).code → place ≡ (mk c).place → Fetched (told mk l) ts ls (Mark.Broken code place) ts ls
-fetched_broken {C} mk l c code place ts ls e ec ep = record {
-  kept = λ k es.
-      (λ i. record { terms = ts; entries = es ++ record { iri = k; mark = Mark.Broken (ec i) (ep i) } ∷ []; triples = ls })
-      ∙ sym (ap (λ (o : Looked C). noted (told mk o) k (record { terms = ts; entries = es; triples = ls })) e);
-  grows = omega arith;
-  few = λ f. f;
-}
 
 -- ---- the address
 

@@ -25,7 +25,7 @@ impl Unlooked {
     }
 }
 
-// One part of a listed triple enters.
+// One part of a listed triple enters, by way of a buffer that is as long as a term may be, since nothing is allocated.
 fn enter_part<W: Web>(
     web: &W,
     iri: &[u8],

@@ -21,6 +21,7 @@ fn total(bytes: &[u8], start: u64) -> u64 {
     sum
 }
 
+// The buffer is as long as a term may be.
 fn read_one<W: Web>(web: &W, iri: &[u8], place: usize, part: u8, sums: Sums) -> Sums {
     let mut sums = sums;
     let mut buffer = [0; 128];
