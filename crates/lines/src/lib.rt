@@ -10,5 +10,5 @@ mod saying;
 pub use cursor::{Line, Lines};
 pub use laws::lines_are_spelled;
 pub use reader::BadLine;
-pub use runs::run_before;
+pub use runs::{run_before, term_run};
 pub use saying::{Saying, Stated, opening, said, statement};
