@@ -12,6 +12,9 @@ fn reserved_and_filled(rt: HostRuntime) -> Result<(), AllocError> {
     assert!(rt; room.is_full());
     assert!(rt; room.push(b'd').is_err());
     assert_eq!(rt; room.as_slice(), b"abc".as_slice());
+    room.set(1, b'd');
+    room.set(3, b'e');
+    assert_eq!(rt; room.as_slice(), b"adc".as_slice());
     room.truncate(2);
     assert_eq!(rt; room.len(), 2);
     room.clear();

@@ -1,5 +1,5 @@
 // A room made, filled and emptied. Only making one asks for memory.
-ghost use Rattle.std.specs.Prelude.{◌≡◌, ◌+◌, ◌<◌, ◌≤◌, ◌↔◌, [], ◌∷◌, ◌++◌, length, take, IfOk, IsOk, OnErr};
+ghost use Rattle.std.specs.Prelude.{◌≡◌, ◌+◌, ◌<◌, ◌≤◌, ◌↔◌, [], ◌∷◌, ◌++◌, length, take, set as set_at, IfOk, IsOk, OnErr};
 ghost use Rattle.room.specs.Items.{items};
 
 use crate::full::Full;
@@ -27,6 +27,17 @@ impl<T, const N: usize> Room<T, N> {
         }
         self.items.push_reserved(item);
         Ok(())
+    }
+
+    // Puts an item in the place of another, if one is there.
+    pub fn set(&mut self, place: usize, item: T)
+    where
+        T: Drop,
+        ensures { items self.new ≡ set_at (items self.old) place item }
+    {
+        if let Some(there) = self.items.get_mut(place) {
+            *there = item;
+        }
     }
 
     // Keeps so many items, the first ones.
