@@ -1,5 +1,6 @@
 -- Verdicts by the node at an index.
-use Rattle.std.proofs.Common.{◌≡◌, ℕ, ◌^◌, ◌≤◌, Bool, false, length, Some, None, vec_items, Option, sym, refl, ap, ◌∙◌, subst, ap₂, arith}
+use Rattle.std.proofs.Common.{◌≡◌, ℕ, ◌^◌, ◌≤◌, Bool, false, length, Some, None, Option, sym, refl, ap, ◌∙◌, subst, ap₂, arith}
+use Rattle.room.specs.Items.{items}
 use lib.Bits.{bit_or}
 use lib.ListN.{length-map}
 use Rattle.grammar.specs.Syntax.{and}
@@ -26,10 +27,10 @@ use Rattle.question.proofs.Standing.{path_is_lem, path_behind, pattern_is_lem, p
 use Rattle.judging.specs.Masked.{asks_at, line_at, Judges}
 
 abbrev pub PathThere : Question → ℕ → PathNode → Type 0
-PathThere q i n = Told (λ (x y : PathNode). x ≡ y) (vec_items q.paths) i (Some n)
+PathThere q i n = Told (λ (x y : PathNode). x ≡ y) (items q.paths) i (Some n)
 
-pub walks_as : (q : Question) (i : ℕ) (n m : PathNode) → PathThere q i n → n ≡ m → (l r : Bool) → walkable (path_of (env_of q).term (paths_of (env_of q).term (vec_items q.paths)) m) l r ≡ walkable (path_is q i) l r
-walks_as q i n m t e l r = ap (λ p. walkable p l r) (ap (path_of (env_of q).term (paths_of (env_of q).term (vec_items q.paths))) (sym e) ∙ sym (path_is_lem (env_of q).term q i n t))
+pub walks_as : (q : Question) (i : ℕ) (n m : PathNode) → PathThere q i n → n ≡ m → (l r : Bool) → walkable (path_of (env_of q).term (paths_of (env_of q).term (items q.paths)) m) l r ≡ walkable (path_is q i) l r
+walks_as q i n m t e l r = ap (λ p. walkable p l r) (ap (path_of (env_of q).term (paths_of (env_of q).term (items q.paths))) (sym e) ∙ sym (path_is_lem (env_of q).term q i n t))
 
 pub path_above : (q : Question) (i : ℕ) (n m : PathNode) → PathThere q i n → n ≡ m → path_from m ≤ i
 path_above q i n m t e = omega (arith, path_behind q i n t, ap path_from e)
@@ -37,14 +38,14 @@ path_above q i n m t e = omega (arith, path_behind q i n t, ap path_from e)
 -- ---- patterns
 
 abbrev pub PatternThere : Question → ℕ → PatternNode → Type 0
-PatternThere q i n = Told (λ (x y : PatternNode). x ≡ y) (vec_items q.patterns) i (Some n)
+PatternThere q i n = Told (λ (x y : PatternNode). x ≡ y) (items q.patterns) i (Some n)
 
-pub judges_as : (q : Question) (i : ℕ) (n m : PatternNode) → PatternThere q i n → n ≡ m → (fixed : ℕ) (r : Option ℕ) → Judges (numbered (asked q).names (pattern_of (env_of q) (patterns_of (env_of q) (vec_items q.patterns)) m)) fixed r → Judges (asks_at q i) fixed r
+pub judges_as : (q : Question) (i : ℕ) (n m : PatternNode) → PatternThere q i n → n ≡ m → (fixed : ℕ) (r : Option ℕ) → Judges (numbered (asked q).names (pattern_of (env_of q) (patterns_of (env_of q) (items q.patterns)) m)) fixed r → Judges (asks_at q i) fixed r
 judges_as q i n m t e fixed r h =
-    let meant = pattern_of (env_of q) (patterns_of (env_of q) (vec_items q.patterns)) in
+    let meant = pattern_of (env_of q) (patterns_of (env_of q) (items q.patterns)) in
     subst (λ p. Judges (numbered (asked q).names p) fixed r) (ap meant (sym e) ∙ sym (pattern_is_lem (env_of_names (env_of q)) q i n t)) h
 
-pub nothing_judged : (q : Question) (i fixed : ℕ) → length (vec_items q.patterns) ≤ i → Judges (asks_at q i) fixed (Some 0)
+pub nothing_judged : (q : Question) (i fixed : ℕ) → length (items q.patterns) ≤ i → Judges (asks_at q i) fixed (Some 0)
 nothing_judged q i fixed le = subst (λ p. Judges (numbered (asked q).names p) fixed (Some 0)) (sym (no_pattern (env_of_names (env_of q)) q i le)) (refl, refl)
 
 pub pattern_above : (q : Question) (i : ℕ) (n m : PatternNode) → PatternThere q i n → n ≡ m → pattern_from m ≤ i
@@ -52,10 +53,7 @@ pattern_above q i n m t e = omega (arith, pattern_behind q i n t, ap pattern_fro
 
 -- the variables of a line are there
 pub ends_there : (q : Question) (i : ℕ) (n m : PatternNode) → PatternThere q i n → n ≡ m → pattern_names m ≤ length (asked q).names
-ends_there q i n m t e = omega (arith, q.patterns_names i, ap pattern_names (t.2.is pattern.Empty ∙ sym t.1 ∙ e), q.names.ok.0, length-map (vec_items q.names) (name_of (vec_items q.text)))
-
-pub eight_names : (q : Question) (a : End) → end_names a ≤ length (asked q).names → end_names a ≤ 8
-eight_names q a le = omega (arith, q.eight, q.names.ok.0, length-map (vec_items q.names) (name_of (vec_items q.text)))
+ends_there q i n m t e = omega (arith, q.patterns_names i, ap pattern_names (t.2.is pattern.Empty ∙ sym t.1 ∙ e), length-map (items q.names) (name_of (items q.text)))
 
 -- where the first side is bounded and the second is not, no other order helps
 pub second_fails : (p q : Asks) (m s : ℕ) (r : Option ℕ) → Judges p m (Some s) → judged q (bit_or m s) ≡ false → r ≡ None → Judges (and p q) m r
@@ -65,11 +63,11 @@ second_fails p q m s r h f e = subst (Judges (and p q) m) (sym e) (first_side_de
 
 pub mask_as : (term : ℕ → ℕ) (q : Question) (a : End) → end_names a ≤ length (asked q).names → end_mask (meant_end term (λ v. v) a) ≡ end_mask (numbered_end (asked q).names (end_at q a))
 mask_as term q (end.Term t) le = refl
-mask_as term q (end.Variable v) le = ap (λ n. 2 ^ n) (sym (place_at (asked q).names v q.distinct (omega arith)))
+mask_as term q (end.Variable v) le = ap (λ n. 2 ^ n) (sym (place_at (asked q).names v.number q.distinct (omega arith)))
 
 pub fixed_as : (term : ℕ → ℕ) (q : Question) (a : End) (m : ℕ) → end_names a ≤ length (asked q).names → fixed (member m) (meant_end term (λ v. v) a) ≡ fixed (member m) (numbered_end (asked q).names (end_at q a))
 fixed_as term q (end.Term t) m le = refl
-fixed_as term q (end.Variable v) m le = ap (member m) (sym (place_at (asked q).names v q.distinct (omega arith)))
+fixed_as term q (end.Variable v) m le = ap (member m) (sym (place_at (asked q).names v.number q.distinct (omega arith)))
 
 -- a test of an end by number is one by name
 abbrev Tests : ℕ → End → Bool → Type 0

@@ -1,5 +1,6 @@
 -- What the inner functions of judging promise: masks of variables, and verdicts on the nodes of a question.
-use Rattle.std.specs.Prelude.{◌≡◌, ℕ, true, false, List, Some, None, vec_items, Option, slice_index_or}
+use Rattle.std.specs.Prelude.{◌≡◌, ℕ, true, false, List, Some, None, Option, slice_index_or}
+use Rattle.room.specs.Items.{items}
 use Rattle.grammar.specs.Syntax.{Path, Pattern, line}
 use Rattle.grammar.specs.Bounded.{Asks}
 use Rattle.grammar.specs.Judged.{judged, sure_mask}
@@ -18,13 +19,13 @@ asks_at q i = numbered (asked q).names (pattern_is q i)
 abbrev pub by_number : List ℕ → Question → EnvOf ℕ ℕ
 by_number numbers q =
     let term = λ (i : ℕ). slice_index_or numbers i 0 in
-    record { term = term; name = λ v. v; path = λ i. meant_path_at (meant_paths term (vec_items q.paths)) i }
+    record { term = term; name = λ v. v; path = λ i. meant_path_at (meant_paths term (items q.paths)) i }
 
 abbrev pub path_by : List ℕ → Question → ℕ → Path ℕ
 path_by numbers q i = (by_number numbers q).path i
 
 abbrev pub asks_by : List ℕ → Question → ℕ → Pattern ℕ ℕ
-asks_by numbers q i = meant_pattern_at (meant_patterns (by_number numbers q) (vec_items q.patterns)) i
+asks_by numbers q i = meant_pattern_at (meant_patterns (by_number numbers q) (items q.patterns)) i
 
 abbrev pub line_at : Question → End → ℕ → End → Asks
 line_at q a p b = line (numbered_end (asked q).names (end_at q a)) (path_is q p) (numbered_end (asked q).names (end_at q b))

@@ -1,9 +1,8 @@
 // Sets of variables as masks of eight bits, and the ends of lines.
-ghost use Rattle.std.specs.Prelude.{◌≡◌, ℕ, ◌≤◌};
+ghost use Rattle.std.specs.Prelude.{◌≡◌, ℕ};
 ghost use Rattle.grammar.specs.Bounded.{fixed as known};
 ghost use Rattle.grammar.specs.Judged.{end_mask};
 ghost use Rattle.grammar.specs.Masks.{member};
-ghost use Rattle.question.specs.Behind.{end_names};
 ghost use Rattle.question.specs.Nodes.{meant_end};
 ghost use Rattle.judging.specs.Judging.{how_many};
 
@@ -11,23 +10,21 @@ use question::End;
 
 // The variable of an end, whatever its term stands for.
 pub fn mask_of(end: End) -> u8
-    requires { end_names end ≤ 8 }
     ensures { (term : ℕ → ℕ) → result ≡ end_mask (meant_end term (λ v. v) end) }
 {
     match end {
         End::Term(_) => 0,
-        End::Variable(v) => 1 << v,
+        End::Variable(v) => 1 << v.number,
     }
 }
 
 // Whether the term at an end is known, whatever it stands for.
 pub fn is_fixed(end: End, fixed: u8) -> bool
-    requires { end_names end ≤ 8 }
     ensures { (term : ℕ → ℕ) → result ≡ known (member fixed) (meant_end term (λ v. v) end) }
 {
     match end {
         End::Term(_) => true,
-        End::Variable(v) => (fixed >> v) & 1 == 1,
+        End::Variable(v) => (fixed >> v.number) & 1 == 1,
     }
 }
 

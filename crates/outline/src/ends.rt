@@ -39,7 +39,7 @@ pub fn put_end(q: &Question, end: End, out: &mut Vec<u8>) -> Result<(), AllocErr
 {
     match end {
         End::Term(number) => put_term(q, number, out),
-        End::Variable(number) => put_name(q, number, out),
+        End::Variable(variable) => put_name(q, variable.number, out),
     }
 }
 

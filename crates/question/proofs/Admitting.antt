@@ -1,8 +1,9 @@
 -- What is kept of a word that is within its limits.
-use Rattle.std.proofs.Common.{◌≡◌, ℕ, ◌<◌, ◌≤◌, true, false, cond, ltb, List, [], ◌∷◌, ◌++◌, map, length, Some, None, Ok, Err, vec_items, Option, sym, refl, ap, ◌∙◌, subst, arith, le-ltb, lt-ltb, le-leb}
+use Rattle.std.proofs.Common.{◌≡◌, ℕ, ◌<◌, ◌≤◌, true, false, cond, ltb, List, [], ◌∷◌, ◌++◌, map, length, Some, None, Ok, Err, Option, sym, refl, ap, ◌∙◌, subst, arith, le-ltb, lt-ltb, le-leb}
 use borrow.Author.Tests.{lt-leb}
 use lib.ListN.{length-map}
 use Rattle.std.proofs.lemmas.List.{map_push}
+use Rattle.room.specs.Items.{items}
 use Rattle.terms.specs.declared.kind.Kind.{Kind}
 use Rattle.terms.specs.declared.kind.Kind.TheVariants.{Iri, Literal}
 use Rattle.tokens.specs.declared.token.Token.{Token}
@@ -69,21 +70,21 @@ pub record Beside (a b : Reader) : Type 0 where
   pub nodes : b.built.nodes ≡ a.built.nodes
 
 pub idle : {a b : Reader} → Beside a b → Idle (view a) (view b)
-idle h = record { paths = ap vec_items h.paths; patterns = ap vec_items h.patterns; count = h.nodes; full = h.full }
+idle h = record { paths = ap items h.paths; patterns = ap items h.patterns; count = h.nodes; full = h.full }
 
 module _ {a b : Reader} (h : Beside a b) (deep : b.depth ≡ a.depth) where
   -- a term more
-  module _ (names : b.built.names ≡ a.built.names) (t : TermSpan) (n : ℕ) (terms : vec_items b.built.terms ≡ vec_items a.built.terms ++ t ∷ []) (at : n ≡ length (vec_items a.built.terms)) where
+  module _ (names : b.built.names ≡ a.built.names) (t : TermSpan) (n : ℕ) (terms : items b.built.terms ≡ items a.built.terms ++ t ∷ []) (at : n ≡ length (items a.built.terms)) where
     terms_are : (seen_of b).terms ≡ (seen_of a).terms ++ term_of (text_of a) t ∷ []
     terms_are =
-        ap (λ v. map (term_of (vec_items v)) (vec_items b.built.terms)) h.text
-        ∙ ap (map (term_of (text_of a))) terms ∙ map_push (term_of (text_of a)) (vec_items a.built.terms) t
+        ap (λ v. map (term_of (items v)) (items b.built.terms)) h.text
+        ∙ ap (map (term_of (text_of a))) terms ∙ map_push (term_of (text_of a)) (items a.built.terms) t
 
     stands : Stands (seen_of b).terms n (term_of (text_of a) t)
-    stands = subst (λ l. Stands l n (term_of (text_of a) t)) (sym terms_are) (stands_last (seen_of a).terms (term_of (text_of a) t) n (at ∙ sym (length-map (vec_items a.built.terms) (term_of (text_of a)))))
+    stands = subst (λ l. Stands l n (term_of (text_of a) t)) (sym terms_are) (stands_last (seen_of a).terms (term_of (text_of a) t) n (at ∙ sym (length-map (items a.built.terms) (term_of (text_of a)))))
 
     seen_is : seen_of b ≡ record { depth = a.depth; names = (seen_of a).names; terms = (seen_of a).terms ++ term_of (text_of a) t ∷ [] }
-    seen_is = λ i. record { depth = deep i; names = map (name_of (vec_items (h.text i))) (vec_items (names i)); terms = terms_are i }
+    seen_is = λ i. record { depth = deep i; names = map (name_of (items (h.text i))) (items (names i)); terms = terms_are i }
 
     go : (k : Kind) → t.kind ≡ k → length (name_of (text_of a) t.span) ≤ 128 → Admission (term_word k (name_of (text_of a) t.span)) a b (Ok n)
     go Iri e short =
@@ -92,7 +93,7 @@ module _ {a b : Reader} (h : Beside a b) (deep : b.depth ≡ a.depth) where
           is = record {
             clear = within 128 (length (name_of (text_of a) t.span)) short;
             seen = seen_is ∙ ap (λ u. record { depth = a.depth; names = (seen_of a).names; terms = (seen_of a).terms ++ u ∷ [] }) same;
-            text = ap vec_items h.text;
+            text = ap items h.text;
             next = h.next;
             idle = idle h;
             numbered = subst (Stands (seen_of b).terms n) same stands;
@@ -104,7 +105,7 @@ module _ {a b : Reader} (h : Beside a b) (deep : b.depth ≡ a.depth) where
           is = record {
             clear = within 128 (length (name_of (text_of a) t.span)) short;
             seen = seen_is ∙ ap (λ u. record { depth = a.depth; names = (seen_of a).names; terms = (seen_of a).terms ++ u ∷ [] }) same;
-            text = ap vec_items h.text;
+            text = ap items h.text;
             next = h.next;
             idle = idle h;
             numbered = subst (Stands (seen_of b).terms n) same stands;
@@ -123,26 +124,26 @@ module _ {a b : Reader} (h : Beside a b) (deep : b.depth ≡ a.depth) where
     name_admitted clear names there = record {
       is = record {
         clear = clear;
-        seen = λ i. record { depth = deep i; names = names i; terms = map (term_of (vec_items (h.text i))) (vec_items (terms i)) };
-        text = ap vec_items h.text;
+        seen = λ i. record { depth = deep i; names = names i; terms = map (term_of (items (h.text i))) (items (terms i)) };
+        text = ap items h.text;
         next = h.next;
         idle = idle h;
         numbered = there;
       };
     }
 
-    pub name_new : vec_items b.built.names ≡ vec_items a.built.names ++ s ∷ [] → n ≡ length (vec_items a.built.names) → n < 8 → length (name_of (text_of a) s) ≤ 16 → known (name_of (text_of a) s) (seen_of a).names ≡ false → Admission (name (name_of (text_of a) s)) a b (Ok n)
+    pub name_new : items b.built.names ≡ items a.built.names ++ s ∷ [] → n ≡ length (items a.built.names) → n < 8 → length (name_of (text_of a) s) ≤ 16 → known (name_of (text_of a) s) (seen_of a).names ≡ false → Admission (name (name_of (text_of a) s)) a b (Ok n)
     name_new names at less short un =
         let more : (seen_of b).names ≡ (seen_of a).names ++ x ∷ [] =
-        ap (λ v. map (name_of (vec_items v)) (vec_items b.built.names)) h.text ∙ ap (map (name_of (text_of a))) names ∙ map_push (name_of (text_of a)) (vec_items a.built.names) s in
-        let long : length (seen_of a).names ≡ n = length-map (vec_items a.built.names) (name_of (text_of a)) ∙ sym at in
+        ap (λ v. map (name_of (items v)) (items b.built.names)) h.text ∙ ap (map (name_of (text_of a))) names ∙ map_push (name_of (text_of a)) (items a.built.names) s in
+        let long : length (seen_of a).names ≡ n = length-map (items a.built.names) (name_of (text_of a)) ∙ sym at in
         name_admitted (unknown x (seen_of a) un ∙ roomy x (seen_of a) (omega arith) ∙ within 16 (length x) short)
         (more ∙ sym (ap (λ b. cond b (seen_of a).names ((seen_of a).names ++ x ∷ [])) un))
         (subst (λ l. Stands l n x) (sym more) (stands_last (seen_of a).names x n (sym long)))
 
     pub name_known : b.built.names ≡ a.built.names → Finds (name_of (text_of a) s) (seen_of a).names (Some n) → Admission (name (name_of (text_of a) s)) a b (Ok n)
     name_known names found =
-        let same : (seen_of b).names ≡ (seen_of a).names = λ i. map (name_of (vec_items (h.text i))) (vec_items (names i)) in
+        let same : (seen_of b).names ≡ (seen_of a).names = λ i. map (name_of (items (h.text i))) (items (names i)) in
         name_admitted
         (ap (λ b. cond b None (at_names x (seen_of a))) found.0)
         (same ∙ sym (ap (λ b. cond b (seen_of a).names ((seen_of a).names ++ x ∷ [])) found.0))
@@ -159,18 +160,18 @@ term_long Iri x h = record { is = record { limited = beyond 128 (length x) h; ap
 term_long Literal x h = record { is = record { limited = beyond 128 (length x) h; apart = too_long } }
 
 module _ {a b : Reader} (x : Name) (un : known x (seen_of a).names ≡ false) where
-  pub ninth : 8 ≤ length (vec_items a.built.names) → Admission (name x) a b (Err TooManyVariables)
+  pub ninth : 8 ≤ length (items a.built.names) → Admission (name x) a b (Err TooManyVariables)
   ninth many = record {
     is = record {
-      limited = unknown x (seen_of a) un ∙ crowded x (seen_of a) (omega (arith, length-map (vec_items a.built.names) (name_of (text_of a))));
+      limited = unknown x (seen_of a) un ∙ crowded x (seen_of a) (omega (arith, length-map (items a.built.names) (name_of (text_of a))));
       apart = too_many;
     };
   }
 
-  pub name_long : length (vec_items a.built.names) < 8 → 16 < length x → Admission (name x) a b (Err TooLong)
+  pub name_long : length (items a.built.names) < 8 → 16 < length x → Admission (name x) a b (Err TooLong)
   name_long few h = record {
     is = record {
-      limited = unknown x (seen_of a) un ∙ roomy x (seen_of a) (omega (arith, length-map (vec_items a.built.names) (name_of (text_of a)))) ∙ beyond 16 (length x) h;
+      limited = unknown x (seen_of a) un ∙ roomy x (seen_of a) (omega (arith, length-map (items a.built.names) (name_of (text_of a)))) ∙ beyond 16 (length x) h;
       apart = too_long;
     };
   }

@@ -1,8 +1,9 @@
 -- What is held is there: the indices that a new node names.
-use Rattle.std.proofs.Common.{◌≡◌, ℕ, ◌<◌, ◌≤◌, false, List, [], ◌∷◌, ◌++◌, length, get_or, Some, None, vec_items, vec_len, Option, sym, ap, ◌∙◌, subst, inl, inr, arith, length-append}
+use Rattle.std.proofs.Common.{◌≡◌, ℕ, ◌<◌, ◌≤◌, false, List, [], ◌∷◌, ◌++◌, length, get_or, Some, None, Option, sym, ap, ◌∙◌, subst, inl, inr, arith, length-append}
 use lib.ListN.{length-map}
 use Rattle.std.proofs.lemmas.List.{get_or_append_left, get_or_push, get_or_past, length_push}
 use Rattle.std.proofs.str.Laws.{order}
+use Rattle.room.specs.Items.{items}
 use Rattle.grammar.specs.Syntax.{negated}
 use Rattle.tokens.specs.declared.token.Token.{Token}
 use Rattle.tokens.specs.declared.token.Token.TheVariants.{Iri, Dot}
@@ -24,21 +25,21 @@ use Rattle.question.proofs.PathParts.{PathDone, took_number, took_onward, read_o
 pub sees : (r : Reader) → Sees (view r) (env (text_of r) r.built)
 sees r = record { terms = λ i x s. s.is (iri_term []); names = λ i x s. s.is []; paths = λ i x s. s.is (negated []) }
 
-pub path_there : (r : Reader) {i : ℕ} {x : Paths} → HeldPath (view r) i x → i < vec_len r.built.paths
+pub path_there : (r : Reader) {i : ℕ} {x : Paths} → HeldPath (view r) i x → i < length (items r.built.paths)
 path_there r h =
-    omega (arith, (h.stands (env (text_of r) r.built) (sees r)).within, grow_length (path_of (env (text_of r) r.built).term) [] (vec_items r.built.paths), r.built.paths.ok.0)
+    omega (arith, (h.stands (env (text_of r) r.built) (sees r)).within, grow_length (path_of (env (text_of r) r.built).term) [] (items r.built.paths))
 
-pub pattern_there : (r : Reader) {i : ℕ} {x : Patterns} → HeldPattern (view r) i x → i < vec_len r.built.patterns
+pub pattern_there : (r : Reader) {i : ℕ} {x : Patterns} → HeldPattern (view r) i x → i < length (items r.built.patterns)
 pattern_there r h =
-    omega (arith, (h.stands (env (text_of r) r.built) (sees r)).within, grow_length (pattern_of (env (text_of r) r.built)) [] (vec_items r.built.patterns), r.built.patterns.ok.0)
+    omega (arith, (h.stands (env (text_of r) r.built) (sees r)).within, grow_length (pattern_of (env (text_of r) r.built)) [] (items r.built.patterns))
 
 pub left_there : (r : Reader) (o : Option ℕ) (v : Option Patterns) → (r.full ≡ false → HeldLeft (view r) o v) → LeftThere r o
 left_there r None v h = tt
 left_there r (Some i) None h = λ f. absurd (h f)
 left_there r (Some i) (Some v) h = λ f. pattern_there r (h f)
 
-pub names_length : (r : Reader) → vec_len r.built.names ≡ length (seen_of r).names
-names_length r = r.built.names.ok.0 ∙ sym (length-map (vec_items r.built.names) (name_of (text_of r)))
+pub names_length : (r : Reader) → length (items r.built.names) ≡ length (seen_of r).names
+names_length r = sym (length-map (items r.built.names) (name_of (text_of r)))
 
 pub passed_names_length : {p q : View} → Passes p q → length p.seen.names ≤ length q.seen.names
 passed_names_length {p} {q} g = let m = passed_names g in omega (arith, ap length m.1 ∙ length-append p.seen.names m.0)
@@ -97,10 +98,10 @@ module _ {t : Token} {k : Kind} {p q s : View} {n : ℕ} (sign : Took t p q n) (
 -- ---- the left of a group
 
 module _ (r s : Reader) where
-  longer : Kept (view r) (view s) → s.full ≡ false → vec_len r.built.patterns ≤ vec_len s.built.patterns
+  longer : Kept (view r) (view s) → s.full ≡ false → length (items r.built.patterns) ≤ length (items s.built.patterns)
   longer k f =
       let g = k.patterns f in
-      omega (arith, ap length g.1 ∙ length-append (vec_items r.built.patterns) g.0, r.built.patterns.ok.0, s.built.patterns.ok.0)
+      omega (arith, ap length g.1 ∙ length-append (items r.built.patterns) g.0)
 
   pub pattern_still : {i : ℕ} → PatternThere r i → Kept (view r) (view s) → PatternThere s i
   pattern_still h k f = omega (arith, h (k.free f), longer k f)
@@ -111,6 +112,6 @@ module _ (r s : Reader) where
 
   pub emptied_there : (o : Option ℕ) (l : ℕ) → LeftThere r o → Emptied o (view r) (view s) l → PatternThere s l
   emptied_there None l h x f =
-      omega (arith, x.index f, ap length (x.patterns f) ∙ length_push (vec_items r.built.patterns) pattern.Empty, s.built.patterns.ok.0)
+      omega (arith, x.index f, ap length (x.patterns f) ∙ length_push (items r.built.patterns) pattern.Empty)
   emptied_there (Some i) l h x f =
-      omega (arith, h (ap (λ v. v.full) (sym x.0) ∙ f), x.1, ap (λ v. length v.patterns) x.0, r.built.patterns.ok.0, s.built.patterns.ok.0)
+      omega (arith, h (ap (λ v. v.full) (sym x.0) ∙ f), x.1, ap (λ v. length v.patterns) x.0)

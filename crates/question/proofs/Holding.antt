@@ -1,7 +1,8 @@
 -- What the arenas hold stays as they grow, and what a new node stands for.
-use Rattle.std.proofs.Common.{◌≡◌, ℕ, ◌+◌, ◌≤◌, Bool, true, false, cond, List, [], ◌∷◌, ◌++◌, length, vec_items, vec_len, sym, refl, ap, ◌∙◌, subst, arith, length-append}
+use Rattle.std.proofs.Common.{◌≡◌, ℕ, ◌+◌, ◌≤◌, Bool, true, false, cond, List, [], ◌∷◌, ◌++◌, length, sym, refl, ap, ◌∙◌, subst, arith, length-append}
 use lib.ListN.{length-map}
 use Rattle.std.proofs.lemmas.List.{get_or_append_left, get_or_push, length_push}
+use Rattle.room.specs.Items.{items}
 use Rattle.tokens.specs.Words.{Word, iri, literal, name, open_brace, close_brace, open_paren, close_paren, dot, bar, slash, caret, star, bang, optional, union, wrong, end}
 use Rattle.grammar.specs.Grammar.{Name, Ends, Paths, Patterns, iri_term, literal_term}
 use Rattle.grammar.specs.Limits.{Seen, after, gather, known}
@@ -145,8 +146,8 @@ end_stays o h = record { stands = λ e s. h.stands e (sees_before o s) }
 
 -- ---- lengths
 
-pub terms_length : (r : Reader) → vec_len r.built.terms ≡ length (seen_of r).terms
-terms_length r = r.built.terms.ok.0 ∙ sym (length-map (vec_items r.built.terms) (term_of (text_of r)))
+pub terms_length : (r : Reader) → length (items r.built.terms) ≡ length (seen_of r).terms
+terms_length r = sym (length-map (items r.built.terms) (term_of (text_of r)))
 
 pub passed_length : {p q : View} → Passes p q → length p.seen.terms ≤ length q.seen.terms
 passed_length {p} {q} g = let m = passed_terms g in omega (arith, ap length m.1 ∙ length-append p.seen.terms m.0)

@@ -9,6 +9,7 @@ use Rattle.grammar.specs.Grammar.{Kind, is_group, is_items, is_item, is_groups, 
 use Rattle.grammar.specs.Reading.{words}
 use Rattle.grammar.specs.Machine.{Symbol, the, a, parts, lead}
 use Rattle.question.specs.declared.node.End.{End}
+use Rattle.question.specs.declared.node.Variable.{Variable as Var}
 use Rattle.question.specs.declared.node.End.TheVariants as end
 use Rattle.question.specs.declared.node.PatternNode.TheVariants as node
 use Rattle.question.specs.Views.{View, Went, Counted, Failed, HeldPattern}
@@ -44,13 +45,13 @@ module _ {p : View} where
     pub variable_fails : {f : Fault} → Failed (the Variable) p f → Failed (a is_end) p f
     variable_fails h = failed_in opened_variable h
 
-    pub variable_read : {q : View} {i : ℕ} → Took Variable p q i → ReadEnd p q (end.Variable i)
-    variable_read {q} {i} h = record {
+    pub variable_read : {q : View} {v : Var} → Took Variable p q v.number → ReadEnd p q (end.Variable v)
+    variable_read {q} {v} h = record {
       tree = end_name (content h.word);
       reads = took_reads h;
       went = went_on opened_variable h.went;
       idle = h.idle;
-      held = record { stands = λ e s. ap variable (s.names i (content h.word) (took_number h)) };
+      held = record { stands = λ e s. ap variable (s.names v.number (content h.word) (took_number h)) };
       terms = omega arith;
       names = omega (arith, (took_number h).within);
     }

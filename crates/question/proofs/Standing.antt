@@ -1,6 +1,7 @@
 -- What stands at a number of a question: a node means what it says of the nodes at the numbers that it names.
-use Rattle.std.proofs.Common.{◌≡◌, ℕ, ◌+◌, ◌<◌, ◌≤◌, List, [], ◌∷◌, ◌++◌, length, get_or, take, drop, Some, vec_items, sym, refl, ap, ◌∙◌, ap₂, arith}
+use Rattle.std.proofs.Common.{◌≡◌, ℕ, ◌+◌, ◌<◌, ◌≤◌, List, [], ◌∷◌, ◌++◌, length, get_or, take, drop, Some, sym, refl, ap, ◌∙◌, ap₂, arith}
 use Rattle.std.proofs.lemmas.List.{length-take-le, length-take, take-take, take-append-drop, take_more, take_all, get_or_past, get_or_push, get_or_append_left, length_push}
+use Rattle.room.specs.Items.{items}
 use Rattle.grammar.specs.Syntax.{negated, inverse, star, sequence, alternative, empty, and, union, opt}
 use Rattle.question.specs.declared.question.Question.{Question}
 use Rattle.question.specs.declared.node.PathNode.{PathNode}
@@ -82,22 +83,22 @@ pattern_parts e ns i (pattern.Opt p r) le lt =
     ap₂ opt (earlier (meant_pattern e) ns i p empty (omega arith) lt) (earlier (meant_pattern e) ns i r empty (omega arith) lt)
 
 -- the children of a node stand before it
-pub path_behind : (q : Question) (i : ℕ) (n : PathNode) → Told (λ (x y : PathNode). x ≡ y) (vec_items q.paths) i (Some n) → path_from n ≤ i
+pub path_behind : (q : Question) (i : ℕ) (n : PathNode) → Told (λ (x y : PathNode). x ≡ y) (items q.paths) i (Some n) → path_from n ≤ i
 path_behind q i n t = omega (arith, q.paths_from i, ap path_from (t.2.is (path.Negated 0 0) ∙ sym t.1))
 
-pub pattern_behind : (q : Question) (i : ℕ) (n : PatternNode) → Told (λ (x y : PatternNode). x ≡ y) (vec_items q.patterns) i (Some n) → pattern_from n ≤ i
+pub pattern_behind : (q : Question) (i : ℕ) (n : PatternNode) → Told (λ (x y : PatternNode). x ≡ y) (items q.patterns) i (Some n) → pattern_from n ≤ i
 pattern_behind q i n t = omega (arith, q.patterns_from i, ap pattern_from (t.2.is pattern.Empty ∙ sym t.1))
 
 -- what stands at an index, by the node there
-pub path_is_lem : {T : Type 0} (f : ℕ → T) (q : Question) (i : ℕ) (n : PathNode) → Told (λ (x y : PathNode). x ≡ y) (vec_items q.paths) i (Some n) → meant_path_at (meant_paths f (vec_items q.paths)) i ≡ meant_path f (meant_paths f (vec_items q.paths)) n
-path_is_lem f q i n t = whole (meant_path f) (vec_items q.paths) i n (negated []) t ∙ path_parts f (vec_items q.paths) i n (path_behind q i n t) (omega (arith, t.2.within))
+pub path_is_lem : {T : Type 0} (f : ℕ → T) (q : Question) (i : ℕ) (n : PathNode) → Told (λ (x y : PathNode). x ≡ y) (items q.paths) i (Some n) → meant_path_at (meant_paths f (items q.paths)) i ≡ meant_path f (meant_paths f (items q.paths)) n
+path_is_lem f q i n t = whole (meant_path f) (items q.paths) i n (negated []) t ∙ path_parts f (items q.paths) i n (path_behind q i n t) (omega (arith, t.2.within))
 
-pub pattern_is_lem : {T V : Type 0} (e : EnvOf T V) (q : Question) (i : ℕ) (n : PatternNode) → Told (λ (x y : PatternNode). x ≡ y) (vec_items q.patterns) i (Some n) → meant_pattern_at (meant_patterns e (vec_items q.patterns)) i ≡ meant_pattern e (meant_patterns e (vec_items q.patterns)) n
-pattern_is_lem e q i n t = whole (meant_pattern e) (vec_items q.patterns) i n empty t ∙ pattern_parts e (vec_items q.patterns) i n (pattern_behind q i n t) (omega (arith, t.2.within))
+pub pattern_is_lem : {T V : Type 0} (e : EnvOf T V) (q : Question) (i : ℕ) (n : PatternNode) → Told (λ (x y : PatternNode). x ≡ y) (items q.patterns) i (Some n) → meant_pattern_at (meant_patterns e (items q.patterns)) i ≡ meant_pattern e (meant_patterns e (items q.patterns)) n
+pattern_is_lem e q i n t = whole (meant_pattern e) (items q.patterns) i n empty t ∙ pattern_parts e (items q.patterns) i n (pattern_behind q i n t) (omega (arith, t.2.within))
 
 -- nothing stands past the last node
-pub no_path : {T : Type 0} (f : ℕ → T) (q : Question) (i : ℕ) → length (vec_items q.paths) ≤ i → meant_path_at (meant_paths f (vec_items q.paths)) i ≡ negated []
-no_path f q i le = nothing_there (meant_path f) (vec_items q.paths) i (negated []) le
+pub no_path : {T : Type 0} (f : ℕ → T) (q : Question) (i : ℕ) → length (items q.paths) ≤ i → meant_path_at (meant_paths f (items q.paths)) i ≡ negated []
+no_path f q i le = nothing_there (meant_path f) (items q.paths) i (negated []) le
 
-pub no_pattern : {T V : Type 0} (e : EnvOf T V) (q : Question) (i : ℕ) → length (vec_items q.patterns) ≤ i → meant_pattern_at (meant_patterns e (vec_items q.patterns)) i ≡ empty
-no_pattern e q i le = nothing_there (meant_pattern e) (vec_items q.patterns) i empty le
+pub no_pattern : {T V : Type 0} (e : EnvOf T V) (q : Question) (i : ℕ) → length (items q.patterns) ≤ i → meant_pattern_at (meant_patterns e (items q.patterns)) i ≡ empty
+no_pattern e q i le = nothing_there (meant_pattern e) (items q.patterns) i empty le

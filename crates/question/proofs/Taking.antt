@@ -1,5 +1,6 @@
 -- One token is passed, or it is at fault.
-use Rattle.std.proofs.Common.{◌≡◌, ℕ, ◌+◌, ◌<◌, true, false, cond, List, [], ◌∷◌, map, Some, Ok, vec_items, vec_len, sym, refl, ap, ◌∙◌, subst, arith}
+use Rattle.std.proofs.Common.{◌≡◌, ℕ, ◌+◌, ◌<◌, true, false, cond, List, [], ◌∷◌, map, Some, Ok, sym, refl, ap, ◌∙◌, subst, arith, length}
+use Rattle.room.specs.Items.{items}
 use Rattle.tokens.specs.declared.token.Token.{Token}
 use Rattle.tokens.specs.declared.token.Token.TheVariants.{Iri, Literal, Variable, OpenBrace, CloseBrace, OpenParen, CloseParen, Dot, Bar, Slash, Caret, Star, Bang, Optional, Union, Wrong, End}
 use Rattle.tokens.specs.declared.token.Lexeme.{Lexeme}
@@ -93,8 +94,8 @@ pub record Advanced (p m : Reader) : Type 0 where
 pub seen_still : {p m : Reader} → Advanced p m → seen_of m ≡ seen_of p
 seen_still h = λ i. record {
   depth = h.depth i;
-  names = map (name_of (vec_items (h.built i).text)) (vec_items (h.built i).names);
-  terms = map (term_of (vec_items (h.built i).text)) (vec_items (h.built i).terms);
+  names = map (name_of (items (h.built i).text)) (items (h.built i).names);
+  terms = map (term_of (items (h.built i).text)) (items (h.built i).terms);
 }
 
 pub advanced : {p m : Reader} {text : List ℕ} → text ≡ text_of p → First text p.next.end m.next → m.depth ≡ p.depth → m.full ≡ p.full → m.built ≡ p.built → Advanced p m
@@ -108,11 +109,11 @@ module _ (p : Reader) (t : Token) (is : same p.next.token t ≡ true) (lasts : f
   goes_on = not_last (text_of p) p.next t is lasts
 
   pub passed : {m : Reader} → Advanced p m → Passed p.next m
-  passed on = record { some = p.long goes_on; behind = on.first.forward; few = omega (arith, p.few, ap (λ q. vec_len q.terms) on.built) }
+  passed on = record { some = p.long goes_on; behind = on.first.forward; few = omega (arith, p.few, ap (λ q. length (items q.terms)) on.built) }
 
   module _ {m b : Reader} {n : ℕ} (ok : Admitted (said (text_of p) p.next) m b n) (on : Advanced p m) where
     text_is : text_of p ≡ text_of b
-    text_is = sym (ok.text ∙ ap (λ q. vec_items q.text) on.built)
+    text_is = sym (ok.text ∙ ap (λ q. items q.text) on.built)
 
     next_is : m.next ≡ b.next
     next_is = sym ok.next
@@ -130,8 +131,8 @@ module _ (p : Reader) (t : Token) (is : same p.next.token t ≡ true) (lasts : f
 
     idle : Idle (view p) (view b)
     idle = record {
-      paths = ok.idle.paths ∙ ap (λ q. vec_items q.paths) on.built;
-      patterns = ok.idle.patterns ∙ ap (λ q. vec_items q.patterns) on.built;
+      paths = ok.idle.paths ∙ ap (λ q. items q.paths) on.built;
+      patterns = ok.idle.patterns ∙ ap (λ q. items q.patterns) on.built;
       count = ok.idle.count ∙ ap (λ q. q.nodes) on.built;
       full = ok.idle.full ∙ on.full;
     }

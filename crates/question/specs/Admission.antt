@@ -1,5 +1,6 @@
 -- What a function answers that holds a word against the limits and keeps what it says.
-use Rattle.std.specs.Prelude.{◌≡◌, ℕ, ◌+◌, ◌<◌, ◌≤◌, List, Some, None, vec_len, Result, MatchResult}
+use Rattle.std.specs.Prelude.{◌≡◌, ℕ, ◌+◌, ◌<◌, ◌≤◌, List, Some, None, Result, MatchResult, length}
+use Rattle.room.specs.Items.{items}
 use Rattle.terms.specs.declared.kind.Kind.{Kind}
 use Rattle.terms.specs.declared.kind.Kind.TheVariants.{Iri, Literal}
 use Rattle.tokens.specs.declared.token.Lexeme.{Lexeme}
@@ -19,7 +20,7 @@ term_word Literal x = literal x
 pub record Passed (l : Lexeme) (r : Reader) : Type 0 where
   pub some : l.start < l.end
   pub behind : l.end ≤ r.next.start
-  pub few : vec_len r.built.terms ≤ l.start
+  pub few : length (items r.built.terms) ≤ l.start
 
 pub record Admitted (x : Word) (a b : Reader) (n : ℕ) : Type 0 where
   pub clear : limit (seen_of a) x ≡ None

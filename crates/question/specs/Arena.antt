@@ -46,7 +46,7 @@ path_of f ps (path.Alternative p q) = alternative (path_at ps p) (path_at ps q)
 
 abbrev pub end_of : (ℕ → Term) → (ℕ → Name) → End → Ends
 end_of f g (end.Term t) = constant (f t)
-end_of f g (end.Variable v) = variable (g v)
+end_of f g (end.Variable v) = variable (g v.number)
 
 -- what terms, variables and paths stand for by number
 pub record Env : Type 0 where

@@ -30,7 +30,7 @@ end_terms (end.Variable v) = 0
 
 abbrev pub end_names : End → ℕ
 end_names (end.Term t) = 0
-end_names (end.Variable v) = v + 1
+end_names (end.Variable v) = v.number + 1
 
 -- the first index at which a pattern can stand, and how many paths, terms and names there must be
 abbrev pub pattern_from : PatternNode → ℕ

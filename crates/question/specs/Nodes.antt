@@ -30,7 +30,7 @@ meant_path f ps (path.Alternative p q) = alternative (meant_path_at ps p) (meant
 
 abbrev pub meant_end : {T V : Type 0} → (ℕ → T) → (ℕ → V) → End → grammar.End T V
 meant_end f g (end.Term t) = constant (f t)
-meant_end f g (end.Variable v) = variable (g v)
+meant_end f g (end.Variable v) = variable (g v.number)
 
 -- what terms, variables and paths stand for by number
 pub record EnvOf (T V : Type 0) : Type 0 where

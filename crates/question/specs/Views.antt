@@ -1,5 +1,6 @@
 -- What the reader's functions promise, in terms of a reader's state: how far it has come, what it has built.
-use Rattle.std.specs.Prelude.{◌≡◌, ℕ, ◌+◌, ◌<◌, ◌≤◌, Bool, true, false, List, ◌∷◌, ◌++◌, map, length, Some, vec_items, slice_index_or}
+use Rattle.std.specs.Prelude.{◌≡◌, ℕ, ◌+◌, ◌<◌, ◌≤◌, Bool, true, false, List, ◌∷◌, ◌++◌, map, length, Some, slice_index_or}
+use Rattle.room.specs.Items.{items}
 use Rattle.tokens.specs.declared.token.Token.{Token}
 use Rattle.tokens.specs.Words.{Word, sort, same}
 use Rattle.tokens.specs.Lexed.{Spot, ahead}
@@ -27,18 +28,18 @@ pub record View : Type 0 where
   pub full : Bool
 
 abbrev pub text_of : Reader → List ℕ
-text_of r = vec_items r.built.text
+text_of r = items r.built.text
 
 abbrev pub seen_of : Reader → Seen
-seen_of r = record { depth = r.depth; names = map (name_of (text_of r)) (vec_items r.built.names); terms = map (term_of (text_of r)) (vec_items r.built.terms) }
+seen_of r = record { depth = r.depth; names = map (name_of (text_of r)) (items r.built.names); terms = map (term_of (text_of r)) (items r.built.terms) }
 
 abbrev pub view : Reader → View
 view r = record {
   spots = ahead (text_of r) r.next;
   start = r.next.start;
   seen = seen_of r;
-  paths = vec_items r.built.paths;
-  patterns = vec_items r.built.patterns;
+  paths = items r.built.paths;
+  patterns = items r.built.patterns;
   count = r.built.nodes;
   full = r.full;
 }

@@ -1,7 +1,8 @@
 // The limits on a token that the grammar has at its place, and what is kept of it.
-ghost use Rattle.std.specs.Prelude.{◌≡◌, ◌+◌, ◌-◌, false};
+ghost use Rattle.std.specs.Prelude.{◌≡◌, ◌+◌, ◌-◌, ◌<◌, false, length};
+ghost use Rattle.room.specs.Items.{items};
 ghost use Rattle.tokens.specs.Words.{name, open_brace, open_paren};
-ghost use Rattle.tokens.specs.Lexed.{said, part};
+ghost use Rattle.tokens.specs.Lexed.{said};
 ghost use Rattle.grammar.specs.Limits.{known};
 ghost use Rattle.question.specs.Arena.{name_of};
 ghost use Rattle.question.specs.Views.{text_of, seen_of};
@@ -19,10 +20,20 @@ impl Reader {
         requires { Passed passed self.old }
         ensures { Admission (said (text_of self.old) passed) self.old self.new result }
     {
-        match passed.token {
-            Token::Iri => self.admit_term(passed, Kind::Iri),
-            Token::Literal => self.admit_term(passed, Kind::Literal),
-            Token::Variable => self.admit_name(passed),
+        let Lexeme { token, start, end } = passed;
+        // A term stands between two marks, and a name behind one.
+        let term = Span {
+            start: start + 1,
+            end: end - 1,
+        };
+        let name = Span {
+            start: start + 1,
+            end,
+        };
+        match token {
+            Token::Iri => self.admit_term(Kind::Iri, term),
+            Token::Literal => self.admit_term(Kind::Literal, term),
+            Token::Variable => self.admit_name(name),
             Token::OpenBrace | Token::OpenParen => self.open_bracket(),
             Token::CloseBrace | Token::CloseParen => Ok(self.close_bracket()),
             _ => Ok(0),
@@ -49,30 +60,21 @@ impl Reader {
         0
     }
 
-    fn admit_term(&mut self, passed: Lexeme, kind: Kind) -> Result<usize, Reason>
-        requires { Passed passed self.old }
-        ensures { Admission (term_word kind (part (text_of self.old) (passed.start + 1) (passed.end - 1))) self.old self.new result }
+    fn admit_term(&mut self, kind: Kind, span: Span) -> Result<usize, Reason>
+        requires { length (items self.old.built.terms) < self.old.next.start }
+        ensures { Admission (term_word kind (name_of (text_of self.old) span)) self.old self.new result }
     {
-        let span = Span {
-            start: passed.start + 1,
-            end: passed.end - 1,
-        };
         if span.of(self.built.text.as_slice()).len() > 128 {
             return Err(Reason::TooLong);
         }
         let number = self.built.terms.len();
-        self.built.terms.push_reserved(TermSpan { kind, span });
+        let _ = self.built.terms.push(TermSpan { kind, span });
         Ok(number)
     }
 
-    fn admit_name(&mut self, passed: Lexeme) -> Result<usize, Reason>
-        requires { Passed passed self.old }
-        ensures { Admission (name (part (text_of self.old) (passed.start + 1) passed.end)) self.old self.new result }
+    fn admit_name(&mut self, span: Span) -> Result<usize, Reason>
+        ensures { Admission (name (name_of (text_of self.old) span)) self.old self.new result }
     {
-        let span = Span {
-            start: passed.start + 1,
-            end: passed.end,
-        };
         match self.find_name(span) {
             Some(number) => Ok(number),
             None => self.add_name(span),
@@ -90,7 +92,7 @@ impl Reader {
         if span.of(self.built.text.as_slice()).len() > 16 {
             return Err(Reason::TooLong);
         }
-        self.built.names.push_reserved(span);
+        let _ = self.built.names.push(span);
         Ok(number)
     }
 }

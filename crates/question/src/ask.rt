@@ -1,5 +1,6 @@
 // What a question says, part by part.
 ghost use Rattle.std.specs.Prelude.{◌≡◌, length};
+ghost use Rattle.room.specs.Items.{items};
 ghost use Rattle.grammar.specs.Syntax.{nodes as counted};
 ghost use Rattle.question.specs.Answers.{Told, held, term_told};
 ghost use Rattle.question.specs.Asking.{asked};
@@ -49,7 +50,7 @@ impl Question {
     pub fn name(&self, number: usize) -> Option<&[u8]>
         ensures { Told (λ x y. x.now ≡ y) (asked self.now).names number result }
     {
-        let name = self.names.get(number)?;
+        let name = self.names.as_slice().get(number)?;
         Some(name.of(self.text.as_slice()))
     }
 
@@ -64,19 +65,19 @@ impl Question {
     pub fn term(&self, number: usize) -> Option<(Kind, &[u8])>
         ensures { Told (λ x y. term_told x.0 x.1.now ≡ y) (asked self.now).terms number result }
     {
-        let term = self.terms.get(number)?;
+        let term = self.terms.as_slice().get(number)?;
         Some((term.kind, term.span.of(self.text.as_slice())))
     }
 
     pub fn path(&self, index: usize) -> Option<PathNode>
-        ensures { Told (λ x y. x ≡ y) self.now.paths.items index result }
+        ensures { Told (λ x y. x ≡ y) (items self.now.paths) index result }
     {
-        self.paths.get(index).copied()
+        self.paths.as_slice().get(index).copied()
     }
 
     pub fn pattern(&self, index: usize) -> Option<PatternNode>
-        ensures { Told (λ x y. x ≡ y) self.now.patterns.items index result }
+        ensures { Told (λ x y. x ≡ y) (items self.now.patterns) index result }
     {
-        self.patterns.get(index).copied()
+        self.patterns.as_slice().get(index).copied()
     }
 }

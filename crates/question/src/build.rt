@@ -21,7 +21,7 @@ impl Reader {
         }
         let i = self.built.paths.len();
         self.built.nodes += cost;
-        self.built.paths.push_reserved(node);
+        let _ = self.built.paths.push(node);
         i
     }
 
@@ -36,7 +36,7 @@ impl Reader {
         }
         let i = self.built.patterns.len();
         self.built.nodes += 1;
-        self.built.patterns.push_reserved(node);
+        let _ = self.built.patterns.push(node);
         i
     }
 }

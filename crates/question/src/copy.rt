@@ -1,16 +1,18 @@
 // A question in the place of another, within memory that is reserved.
-ghost use Rattle.std.specs.Prelude.{◌≡◌, ◌≤◌, [], length, vec_len, vec_capacity};
+ghost use Rattle.std.specs.Prelude.{◌≡◌, []};
+ghost use Rattle.room.specs.Items.{items};
 ghost use Rattle.question.specs.Asking.{asked};
 
 use crate::question::Question;
+use room::Room;
 
 impl Question {
     pub(crate) fn clear(&mut self)
-        ensures text { self.new.text.items ≡ [] }
-        ensures terms { self.new.terms.items ≡ [] }
-        ensures names { self.new.names.items ≡ [] }
-        ensures paths { self.new.paths.items ≡ [] }
-        ensures patterns { self.new.patterns.items ≡ [] }
+        ensures text { items self.new.text ≡ [] }
+        ensures terms { items self.new.terms ≡ [] }
+        ensures names { items self.new.names ≡ [] }
+        ensures paths { items self.new.paths ≡ [] }
+        ensures patterns { items self.new.patterns ≡ [] }
         ensures nodes { self.new.nodes ≡ 0 }
     {
         self.patterns.clear();
@@ -29,21 +31,19 @@ impl Question {
         self.patterns.clear();
         self.paths.clear();
         self.nodes = other.nodes;
-        refill(&mut self.text, other.text.as_slice());
-        refill(&mut self.names, other.names.as_slice());
-        refill(&mut self.terms, other.terms.as_slice());
-        refill(&mut self.paths, other.paths.as_slice());
-        refill(&mut self.patterns, other.patterns.as_slice());
+        refill(&mut self.text, &other.text);
+        refill(&mut self.names, &other.names);
+        refill(&mut self.terms, &other.terms);
+        refill(&mut self.paths, &other.paths);
+        refill(&mut self.patterns, &other.patterns);
         self.root = other.root;
     }
 }
 
-pub(crate) fn refill<T: Copy + Drop>(place: &mut Vec<T>, items: &[T])
-    requires { length items.now ≤ vec_capacity place.old }
-    ensures items { place.new.items ≡ items.now }
-    ensures len { vec_len place.new ≡ length items.now }
-    ensures room { vec_capacity place.old ≤ vec_capacity place.new }
+// Puts what another holds in place of what is there.
+fn refill<T: Copy + Drop, const N: usize>(place: &mut Room<T, N>, other: &Room<T, N>)
+    ensures { items place.new ≡ items other.now }
 {
     place.clear();
-    let _ = place.extend_from_slice(items);
+    let _ = place.extend_from_slice(other.as_slice());
 }

@@ -1,11 +1,20 @@
 // The nodes of a question's tree. Paths and patterns stand in an arena each, every node behind its children, which it names by index. An arena and no
 // boxes, by a rule of the project: a tree has 64 nodes at most, in memory that is reserved once.
 
-// An end of a line: a term of the question, or a variable, by number.
+ghost use Rattle.std.specs.Prelude.{◌<◌};
+
+// One of a question's eight variables, by number.
+#[derive(Clone, Copy)]
+pub struct Variable {
+    pub number: usize,
+    ghost below: { number < 8 },
+}
+
+// An end of a line: a term of the question, by number, or a variable.
 #[derive(Clone, Copy)]
 pub enum End {
     Term(usize),
-    Variable(usize),
+    Variable(Variable),
 }
 
 #[derive(Clone, Copy)]

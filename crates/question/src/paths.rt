@@ -1,6 +1,7 @@
 // Reads property paths. Each function reads one kind of the grammar, from the next token on. `path`, `sequence` and `groups` stay apart though
 // they look alike: one function of them would be told by an enum of three which it is, and match on it for the sign, the part and the node.
-ghost use Rattle.std.specs.Prelude.{◌+◌, ◌-◌, ◌≤◌, vec_len};
+ghost use Rattle.std.specs.Prelude.{◌+◌, ◌-◌, ◌≤◌, length};
+ghost use Rattle.room.specs.Items.{items};
 ghost use Rattle.question.specs.declared.node.PathNode.TheVariants.{Negated};
 ghost use Rattle.grammar.specs.Grammar.{means, is_base, is_members, is_negation, is_path, is_sequence, is_step, is_suffix};
 ghost use Rattle.grammar.specs.Machine.{a};
@@ -128,8 +129,8 @@ impl Reader {
 
     // A negated set of the terms from the first on.
     fn add_negated(&mut self, first: usize) -> usize
-        requires { first ≤ vec_len self.old.built.terms }
-        ensures { PlacedPath (view self.old) (view self.new) (Negated first (vec_len self.old.built.terms - first)) (vec_len self.old.built.terms - first + 1) result }
+        requires { first ≤ length (items self.old.built.terms) }
+        ensures { PlacedPath (view self.old) (view self.new) (Negated first (length (items self.old.built.terms) - first)) (length (items self.old.built.terms) - first + 1) result }
     {
         let count = self.built.terms.len() - first;
         self.add_path(PathNode::Negated { first, count }, count + 1)

@@ -5,7 +5,7 @@ ghost use Rattle.question.specs.Views.{view};
 ghost use Rattle.question.specs.Outcomes.{Outcome, PatternRead, ReadEnd, ReadItem, ReadItems};
 ghost use Rattle.question.specs.Within.{LeftThere};
 
-use crate::node::{End, PatternNode};
+use crate::node::{End, PatternNode, Variable};
 use crate::reader::Reader;
 use grammar::Fault;
 use tokens::Token;
@@ -98,8 +98,8 @@ impl Reader {
                 Ok(End::Term(literal))
             }
             _ => {
-                let variable = self.expect(Token::Variable)?;
-                Ok(End::Variable(variable))
+                let number = self.expect(Token::Variable)?;
+                Ok(End::Variable(Variable { number }))
             }
         }
     }

@@ -4,6 +4,7 @@ ghost use Rattle.question.specs.Asking.{asked, nothing_asked};
 
 use crate::node::PatternNode;
 use crate::question::Question;
+use room::Room;
 use std::alloc::{AllocError, Global};
 
 impl Question {
@@ -11,12 +12,12 @@ impl Question {
     pub fn reserve(heap: Global) -> Result<Question, AllocError>
         ensures { IfOk result (λ q. (asked q ≡ nothing_asked) × (q.nodes ≡ 1)) }
     {
-        let text = Vec::with_capacity(heap, 2048)?;
-        let terms = Vec::with_capacity(heap, 2048)?;
-        let names = Vec::with_capacity(heap, 8)?;
-        let paths = Vec::with_capacity(heap, 64)?;
-        let mut patterns = Vec::with_capacity(heap, 64)?;
-        patterns.push_reserved(PatternNode::Empty);
+        let text = Room::reserve(heap)?;
+        let terms = Room::reserve(heap)?;
+        let names = Room::reserve(heap)?;
+        let paths = Room::reserve(heap)?;
+        let mut patterns = Room::reserve(heap)?;
+        let _ = patterns.push(PatternNode::Empty);
         Ok(Question {
             text,
             terms,

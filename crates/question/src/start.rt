@@ -2,7 +2,6 @@
 ghost use Rattle.question.specs.Answers.{Fresh};
 ghost use Rattle.std.specs.Prelude.{◌≡◌, ◌≤◌, length};
 
-use crate::copy::refill;
 use crate::question::Question;
 use crate::reader::Reader;
 use tokens::{Lexeme, Token, next};
@@ -20,7 +19,7 @@ impl Reader {
         ensures { Fresh text.now self.new }
     {
         self.built.clear();
-        refill(&mut self.built.text, text);
+        let _ = self.built.text.extend_from_slice(text);
         self.depth = 0;
         self.full = false;
         self.next = next(self.built.text.as_slice(), 0);

@@ -1,7 +1,8 @@
 -- The terms of a question, read one after the other.
-use Rattle.std.proofs.Common.{◌≡◌, ℕ, ◌+◌, ◌≤◌, Bool, true, false, cond, List, [], ◌∷◌, ◌++◌, map, length, take, drop, is_some, Some, None, Ok, Err, vec_items, Option, sym, refl, ap, ◌∙◌, subst, ap₂, arith, take-append-drop, take_all, take_at}
+use Rattle.std.proofs.Common.{◌≡◌, ℕ, ◌+◌, ◌≤◌, Bool, true, false, cond, List, [], ◌∷◌, ◌++◌, map, length, take, drop, is_some, Some, None, Ok, Err, Option, sym, refl, ap, ◌∙◌, subst, ap₂, arith, take-append-drop, take_all, take_at}
 use lib.ListN.{length-map}
 use Rattle.std.proofs.lemmas.List.{take_more, map_push}
+use Rattle.room.specs.Items.{items}
 use Rattle.terms.specs.Terms.{Term}
 use Rattle.question.specs.declared.question.Question.{Question}
 use Rattle.question.specs.Arena.{term_of}
@@ -13,7 +14,7 @@ use Rattle.store.specs.State.{State, fitting, entered, enters, numbered}
 use Rattle.store.specs.Entering.{Entering}
 
 pub few_terms : (q : Question) → length (asked q).terms ≤ 2048
-few_terms q = omega (arith, length-map (vec_items q.terms) (term_of (vec_items q.text)), q.terms.ok.0, q.fitting)
+few_terms q = omega (arith, length-map (items q.terms) (term_of (items q.text)), q.terms.few)
 
 -- one term more
 pub take_next : (xs : List Term) (i : ℕ) (x : Term) → Stands xs i x → take (i + 1) xs ≡ take i xs ++ x ∷ []

@@ -9,4 +9,4 @@ last_bit : (n : ℕ) → bit_and n 1 ≡ n % 2
 last_bit n = omega (arith, and_step n 1, and_zero_r (n / 2))
 
 pub returns-in-Variable : goal.returns-in-Variable
-returns-in-Variable c = λ term. ap (λ n. eqb n 1) (last_bit (c.args.fixed / 2 ^ c.in-Variable.v)) ∙ ap (λ e. fixed (member c.args.fixed) (meant_end term (λ v. v) e)) (sym c.in-Variable.is)
+returns-in-Variable c = λ term. ap (λ n. eqb n 1) (last_bit (c.args.fixed / 2 ^ c.in-Variable.v.number)) ∙ ap (λ e. fixed (member c.args.fixed) (meant_end term (λ v. v) e)) (sym c.in-Variable.is)

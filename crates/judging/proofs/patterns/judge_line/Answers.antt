@@ -1,19 +1,7 @@
 use Rattle.std.proofs.Common.{sym, ◌∙◌, ap₂}
 use lib.Bits.{bit_or}
-use Rattle.judging.proofs.Placed.{eight_names, mask_as, line_walks}
+use Rattle.judging.proofs.Placed.{mask_as, line_walks}
 use Rattle.judging.proofs.patterns.judge_line.Goals as goal
-
-pub is_fixed-requires : goal.is_fixed-requires
-is_fixed-requires c = eight_names c.args.q.now c.args.subject c.requires.subject
-
-pub is_fixed-requires-2 : goal.is_fixed-requires-2
-is_fixed-requires-2 c = eight_names c.args.q.now c.args.object c.requires.object
-
-pub mask_of-requires : goal.mask_of-requires
-mask_of-requires c = eight_names c.args.q.now c.args.subject c.requires.subject
-
-pub mask_of-requires-then-walkable : goal.mask_of-requires-then-walkable
-mask_of-requires-then-walkable c = eight_names c.args.q.now c.args.object c.requires.object
 
 pub returns-then-walkable : goal.returns-then-walkable
 returns-then-walkable c =

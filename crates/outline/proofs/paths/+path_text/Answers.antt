@@ -1,4 +1,5 @@
-use Rattle.std.proofs.Common.{[], vec_items, sym, ap}
+use Rattle.std.proofs.Common.{[], sym, ap}
+use Rattle.room.specs.Items.{items}
 use Rattle.grammar.specs.Syntax.{negated}
 use Rattle.question.specs.Arena.{path_of}
 use Rattle.outline.specs.Outlined.{path_text}
@@ -11,12 +12,12 @@ use Rattle.outline.proofs.paths.+path_text.Goals as goal
 pub put_path-returns-then-index-limit : goal.put_path-returns-then-index-limit
 put_path-returns-then-index-limit t c =
     let q = c.args.q.now in
-    adds_as (ap path_text (sym (past_limit (path_of (env_of q).term) (vec_items q.paths) c.args.limit c.args.index (negated []) c.if-index-limit.true))) c.put.ensures
+    adds_as (ap path_text (sym (past_limit (path_of (env_of q).term) (items q.paths) c.args.limit c.args.index (negated []) c.if-index-limit.true))) c.put.ensures
 
 pub put_path-returns-in_default : goal.put_path-returns-in_default
 put_path-returns-in_default t c =
     let q = c.args.q.now in
-    adds_as (ap path_text (sym (past_all (path_of (env_of q).term) (vec_items q.paths) c.args.limit c.args.index (negated []) c.in_default.ensures))) c.put-in_default.ensures
+    adds_as (ap path_text (sym (past_all (path_of (env_of q).term) (items q.paths) c.args.limit c.args.index (negated []) c.in_default.ensures))) c.put-in_default.ensures
 
 pub put_path-returns-in-Link : goal.put_path-returns-in-Link
 put_path-returns-in-Link t c = adds_as (path_here c.args.q.now c.args.limit c.args.index _ _ c.if-index-limit.false c.in-Some.ensures c.in-Link.is) c.put_term.ensures

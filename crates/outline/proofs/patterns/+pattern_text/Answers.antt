@@ -1,4 +1,5 @@
-use Rattle.std.proofs.Common.{vec_items, sym, ap}
+use Rattle.std.proofs.Common.{sym, ap}
+use Rattle.room.specs.Items.{items}
 use Rattle.grammar.specs.Syntax.{empty}
 use Rattle.question.specs.Arena.{pattern_of}
 use Rattle.outline.specs.Outlined.{pattern_text}
@@ -11,12 +12,12 @@ use Rattle.outline.proofs.patterns.+pattern_text.Goals as goal
 pub put_pattern-returns-then-index-limit : goal.put_pattern-returns-then-index-limit
 put_pattern-returns-then-index-limit t c =
     let q = c.args.q.now in
-    adds_as (ap pattern_text (sym (past_limit (pattern_of (env_of q)) (vec_items q.patterns) c.args.limit c.args.index empty c.if-index-limit.true))) c.put.ensures
+    adds_as (ap pattern_text (sym (past_limit (pattern_of (env_of q)) (items q.patterns) c.args.limit c.args.index empty c.if-index-limit.true))) c.put.ensures
 
 pub put_pattern-returns-in_default : goal.put_pattern-returns-in_default
 put_pattern-returns-in_default t c =
     let q = c.args.q.now in
-    adds_as (ap pattern_text (sym (past_all (pattern_of (env_of q)) (vec_items q.patterns) c.args.limit c.args.index empty c.in_default.ensures))) c.put-in_default.ensures
+    adds_as (ap pattern_text (sym (past_all (pattern_of (env_of q)) (items q.patterns) c.args.limit c.args.index empty c.in_default.ensures))) c.put-in_default.ensures
 
 pub put_pattern-returns-in-Empty : goal.put_pattern-returns-in-Empty
 put_pattern-returns-in-Empty t c = adds_as (pattern_here c.args.q.now c.args.limit c.args.index _ _ c.if-index-limit.false c.in-Some.ensures c.in-Empty.is) c.put-in-Empty.ensures

@@ -1,4 +1,5 @@
-use Rattle.std.proofs.Common.{length, ap, vec_items, arith}
+use Rattle.std.proofs.Common.{length, ap, arith}
+use Rattle.room.specs.Items.{items}
 use lib.ListN.{length-map}
 use Rattle.question.specs.Arena.{term_of}
 use Rattle.question.proofs.draft.Draft.new.Goals as goal
@@ -6,4 +7,4 @@ use Rattle.question.proofs.draft.Draft.new.Goals as goal
 pub invariant_of-result-clause-few : goal.invariant_of-result-clause-few
 invariant_of-result-clause-few c =
     let b = c.in_ok-built.built in
-    omega (arith, ap (λ a. length a.terms) c.in_ok-built.ensures.0, length-map (vec_items b.terms) (term_of (vec_items b.text)), b.terms.ok.0)
+    omega (arith, ap (λ a. length a.terms) c.in_ok-built.ensures.0, length-map (items b.terms) (term_of (items b.text)))

@@ -1,4 +1,6 @@
-use Rattle.std.proofs.Common.{vec_items, vec_len, refl, arith}
+use Rattle.std.proofs.Common.{refl, arith, length, ap, ◌∙◌, ◌<◌}
+use Rattle.std.proofs.lemmas.List.{length_push}
+use Rattle.room.specs.Items.{items}
 use Rattle.question.specs.Behind.{path_from, path_terms}
 use Rattle.question.proofs.Fitting.{pushed}
 use Rattle.question.proofs.reader.Reader.add_path.Goals as goal
@@ -7,6 +9,8 @@ pub invariant_of-self-4 : goal.invariant_of-self-4
 invariant_of-self-4 c =
     let r = c.args.self.now in
     let b = r.built in
-    let p = c.push_reserved.ensures in
     let free = c.if-self.false in
-    ((b.text_room, (b.terms_room, (b.names_room, (omega (arith, b.paths_room, p.capacity), (b.patterns_room, (b.short, (b.fitting, (omega (arith, c.if-cost-self.false, b.few), (omega (arith, b.counted, p.len, c.requires.some), (b.eight, (b.distinct, (pushed path_from (λ i. i) (vec_items b.paths) _ c.args.node _ p.items b.paths_from (omega (arith, c.requires.fits.from free, b.paths.ok.0)) refl, (pushed path_terms (λ i. vec_len b.terms) (vec_items b.paths) _ c.args.node _ p.items b.paths_terms (c.requires.fits.terms free) refl, (b.patterns_from, ((λ i. omega (arith, b.patterns_paths i, p.len)), (b.patterns_terms, (b.patterns_names, tt))))))))))))))))), (r.within, (r.last, (r.long, (r.few, tt)))))
+    let room : length (items b.paths) < 64 = omega (arith, b.counted, c.if-cost-self.false, c.requires.some) in
+    let more = c.push.ensures.taken room in
+    let long = ap length more ∙ length_push (items b.paths) c.args.node in
+    ((omega (arith, c.if-cost-self.false, b.few), (omega (arith, b.counted, long, c.requires.some), (b.distinct, (pushed path_from (λ i. i) (items b.paths) _ c.args.node _ more b.paths_from (omega (arith, c.requires.fits.from free)) refl, (pushed path_terms (λ i. length (items b.terms)) (items b.paths) _ c.args.node _ more b.paths_terms (c.requires.fits.terms free) refl, (b.patterns_from, ((λ i. omega (arith, b.patterns_paths i, long)), (b.patterns_terms, (b.patterns_names, tt))))))))), (r.within, (r.last, (r.long, (r.few, tt)))))

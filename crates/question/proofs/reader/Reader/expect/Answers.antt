@@ -9,14 +9,14 @@ returns-then-ne c = record { is = unlike c.args.self.now c.args.token (differ _ 
 pub returns-in-Ok : goal.returns-in-Ok
 returns-in-Ok c =
     let is = alike c.args.self.now.next.token c.args.token (search rules) in
-    took c.args.self.now c.args.token is c.requires c.in-Ok.ensures.is (advanced c.as_slice.ensures.value c.next-self.ensures refl refl refl)
+    took c.args.self.now c.args.token is c.requires c.in-Ok.ensures.is (advanced c.as_slice.ensures c.next-self.ensures refl refl refl)
 
 pub returns-in-Err : goal.returns-in-Err
 returns-in-Err c =
     let is = alike c.args.self.now.next.token c.args.token (search rules) in
-    record { is = over c.args.self.now c.args.token c.in-Err.ensures.is (advanced c.as_slice.ensures.value c.next-self.ensures refl refl refl) is }
+    record { is = over c.args.self.now c.args.token c.in-Err.ensures.is (advanced c.as_slice.ensures c.next-self.ensures refl refl refl) is }
 
 pub admit-requires : goal.admit-requires
 admit-requires c =
     let is = alike c.args.self.now.next.token c.args.token (search rules) in
-    passed c.args.self.now c.args.token is c.requires (advanced c.as_slice.ensures.value c.next-self.ensures refl refl refl)
+    passed c.args.self.now c.args.token is c.requires (advanced c.as_slice.ensures c.next-self.ensures refl refl refl)
