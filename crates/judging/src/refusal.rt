@@ -1,7 +1,7 @@
 // How judging declines.
 ghost use Rattle.std.specs.Prelude.{◌≡◌};
 
-// No walk could answer the question completely.
+// No walk could answer the question completely. The one reason for which judging declines: an enum of one variant would be no plainer.
 #[derive(Clone, Copy)]
 pub struct NotBounded;
 
