@@ -1,11 +1,12 @@
 -- One token is passed, or it is at fault.
-use Rattle.std.proofs.Common.{◌≡◌, ℕ, ◌+◌, ◌<◌, true, false, cond, List, [], ◌∷◌, map, Some, Ok, sym, refl, ap, ◌∙◌, subst, arith, length}
+use Rattle.std.proofs.Common.{◌≡◌, ℕ, ◌+◌, ◌<◌, true, false, cond, List, [], ◌∷◌, map, Some, Ok, Err, Result, MatchResult, IsErrAnd, sym, refl, ap, ◌∙◌, subst, arith, length}
 use Rattle.room.specs.Items.{items}
 use Rattle.tokens.specs.declared.token.Token.{Token}
 use Rattle.tokens.specs.declared.token.Token.TheVariants.{Iri, Literal, Variable, OpenBrace, CloseBrace, OpenParen, CloseParen, Dot, Bar, Slash, Caret, Star, Bang, Optional, Union, Wrong, End}
 use Rattle.tokens.specs.declared.token.Lexeme.{Lexeme}
 use Rattle.tokens.specs.Words.{Word, sort, saying, same, end}
 use Rattle.tokens.specs.Lexed.{said, final, ahead, tokens_from, First, part, inner}
+use Rattle.grammar.specs.declared.refusal.Fault.{Fault}
 use Rattle.grammar.specs.declared.refusal.Reason.{Reason}
 use Rattle.grammar.specs.declared.refusal.Reason.TheVariants.{NoQuestion, TooDeep, TooManyVariables, TooLong}
 use Rattle.grammar.specs.Limits.{Seen, after, limit}
@@ -16,7 +17,7 @@ use Rattle.question.specs.declared.reader.Reader.{Reader}
 use Rattle.question.specs.Views.{text_of, seen_of, view, Idle, Because, Failed}
 use Rattle.question.specs.Arena.{name_of, term_of}
 use Rattle.question.specs.Outcomes.{Outcome, Took}
-use Rattle.question.specs.Admission.{Passed, Admitted, Over}
+use Rattle.question.specs.Admission.{Passed, Admission, Admitted, Over}
 use Rattle.question.proofs.Counts.{clash}
 use Rattle.question.proofs.Going.{kept_idle}
 
@@ -187,3 +188,11 @@ module _ (p : Reader) (t : Token) where
 
   pub over : {m : Reader} {why : Reason} → Over (said (text_of p) p.next) m why → Advanced p m → same p.next.token t ≡ true → Failed (the t) (view p) (record { reason = why; at = p.next.start })
   over {m} {why} h on is = stopped why (because t why (seen_of p) (said (text_of p) p.next) (ap (same t) (next_sort p ∙ same_is p.next.token t is) ∙ same_refl t) h.apart (ap (λ s. limit s (said (text_of p) p.next)) (sym (seen_still on)) ∙ h.limited))
+
+-- a token that was admitted is passed; one that was not is at fault there
+pub told : (p : Reader) (t : Token) → same p.next.token t ≡ true → final (saying t []) ≡ false → {m b : Reader} → Advanced p m → (r : Result ℕ Reason) (s : Result ℕ Fault) (Made : Reason → Fault → Type 0)
+    → Admission (said (text_of p) p.next) m b r → MatchResult r (λ n. s ≡ Ok n) (λ why. IsErrAnd s (Made why)) → ((why : Reason) (f : Fault) → Made why f → f ≡ record { reason = why; at = p.next.start })
+    → Outcome (the t) (view p) (λ n. Took t (view p) (view b) n) s
+told p t is lasts {m} {b} on (Ok n) s Made h same_answer made = subst (Outcome (the t) (view p) (λ n. Took t (view p) (view b) n)) (sym same_answer) (took p t is lasts h.is on)
+told p t is lasts {m} {b} on (Err why) (Ok n) Made h never made = absurd never
+told p t is lasts {m} {b} on (Err why) (Err f) Made h at made = record { is = subst (Failed (the t) (view p)) (sym (made why f at)) (over p t h.is on is) }

@@ -25,10 +25,6 @@ impl Reader {
             });
         }
         self.next = next(self.built.text.as_slice(), passed.end);
-        // By a match: with `map_err` both answers meet in one goal, whose proof was not found.
-        match self.admit(passed) {
-            Ok(number) => Ok(number),
-            Err(reason) => Err(Fault { reason, at }),
-        }
+        self.admit(passed).map_err(|reason| Fault { reason, at })
     }
 }
