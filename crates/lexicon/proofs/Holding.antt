@@ -19,6 +19,9 @@ inside l = subst (Inside (items l.parts)) l.whole (laid_inside (items l.parts) l
 pub held_count : (l : Lexicon) → length (held l) ≡ length (items l.kinds)
 held_count l = terms_count (items l.text) (items l.kinds) (items l.parts) l.paired
 
+pub held_few : (l : Lexicon) → length (held l) ≤ 1024
+held_few l = omega (arith, held_count l, l.kinds.few)
+
 pub held_bytes : (l : Lexicon) → bytes_of (held l) ≡ length (items l.text)
 held_bytes l = bytes_sizes (items l.text) (items l.kinds) (items l.parts) l.paired (inside l) ∙ l.whole
 

@@ -1,13 +1,11 @@
 -- Numbers of terms in a list, and what entering does to them.
-use Rattle.std.proofs.Common.{◌≡◌, ℕ, zero, suc, ◌+◌, ◌<◌, ◌≤◌, Bool, true, false, cond, ◌&&◌, eqb, leb, List, [], ◌∷◌, ◌++◌, length, get_or, take, unwrap_or, Some, None, sym, refl, ap, ◌∙◌, subst, ap₂, append_assoc, append-nil, add-one, arith, length-append, take_all, eq-eqb, ne_eqb, eqb-true, le-leb, leb-false, leb-true}
-use denote.Enum.Bare.{sameb}
-use lib.Pointwise.{pointwise}
+use Rattle.std.proofs.Common.{◌≡◌, ℕ, zero, suc, ◌+◌, ◌<◌, ◌≤◌, Bool, true, false, cond, ◌&&◌, eqb, leb, List, [], ◌∷◌, ◌++◌, length, get_or, unwrap_or, Some, None, Option, sym, refl, ap, ◌∙◌, subst, ap₂, append_assoc, append-nil, arith, length-append, eq-eqb, ne_eqb, eqb-true, le-leb, leb-false, leb-true}
+use Rattle.std.specs.Option.{MatchOption}
 use Rattle.terms.specs.Terms.{Term}
-use Rattle.terms.specs.contracts.kind.Kind.{the_type}
 use Rattle.terms.specs.declared.kind.Kind.{Kind}
 use Rattle.terms.specs.declared.kind.Kind.TheVariants.{Iri, Literal}
 use Rattle.tokens.specs.Lexed.{same_bytes}
-use Rattle.lexicon.specs.Numbering.{term, same_kind, same_term, one_on, number_of, told_number, term_at, enter, enter_all, bytes_of, within, admit, admitted}
+use Rattle.lexicon.specs.Numbering.{term, same_kind, same_term, is_term, one_on, number_of, told_number, term_at, enter, enter_all, bytes_of, within, admit, admitted}
 
 pub and_left : (a b : Bool) → (a && b) ≡ true → a ≡ true
 and_left true b e = refl
@@ -46,19 +44,6 @@ term_same a b e =
 pub term_self : (t : Term) → same_term t t ≡ true
 term_self t = ap₂ ◌&&◌ (kind_self t.kind) (bytes_self t.bytes)
 
--- equal as `==` finds it
-pub kinds_equal : (a b : Kind) → sameb the_type a b ≡ same_kind a b
-kinds_equal Iri Iri = refl
-kinds_equal Iri Literal = refl
-kinds_equal Literal Iri = refl
-kinds_equal Literal Literal = refl
-
-pub bytes_equal : (xs ys : List ℕ) → pointwise eqb xs ys ≡ same_bytes xs ys
-bytes_equal [] [] = refl
-bytes_equal [] (y ∷ ys) = refl
-bytes_equal (x ∷ xs) [] = refl
-bytes_equal (x ∷ xs) (y ∷ ys) = ap (λ (b : Bool). eqb x y && b) (bytes_equal xs ys)
-
 -- ---- one on
 
 on_some : (n : ℕ) → 0 < one_on n → (0 < n) × (one_on n ≡ suc n)
@@ -74,11 +59,6 @@ on_none zero h = refl
 on_none (suc n) h = absurd (omega arith)
 
 -- ---- numbers
-
--- what is told of a number
-pub told_some : (n m : ℕ) → m + 1 ≡ n → Some (m + 1) ≡ told_number n
-told_some zero m e = absurd (omega arith)
-told_some (suc n) m e = ap Some e
 
 pub told_is : (n m : ℕ) → Some m ≡ told_number n → (m ≡ n) × (0 < m)
 told_is zero m e = absurd (cc)
@@ -260,39 +240,24 @@ each_once xs = once_all [] xs (λ n t e. none_some t e)
 
 -- ---- looking through a list
 
-pub number_start : (ts : List Term) (t : Term) → number_of (take 0 ts) t ≡ 0
+number_is : (ts : List Term) (t : Term) (i : ℕ) → is_term (term_at ts (suc i)) t ≡ true → ((k : ℕ) → k < i → is_term (term_at ts (suc k)) t ≡ false) → number_of ts t ≡ suc i
 unfolding number_of
-number_start [] t = refl
-number_start (x ∷ ts) t = refl
+number_is [] t i found before = let z : ◌≡◌ {A = ℕ} 0 1 = cc in absurd (omega arith)
+number_is (x ∷ xs) t zero found before = ap (λ b. cond b 1 (one_on (number_of xs t))) found
+number_is (x ∷ xs) t (suc i) found before = ap (λ b. cond b 1 (one_on (number_of xs t))) (before 0 (omega arith)) ∙ ap one_on (number_is xs t i found (λ k h. before (suc k) (omega arith)))
 
-one_more : (ts : List Term) (t d : Term) (i : ℕ) → i < length ts → number_of (take i ts) t ≡ 0 → same_term (get_or ts i d) t ≡ false → number_of (take (suc i) ts) t ≡ 0
+number_not : (ts : List Term) (t : Term) → ((k : ℕ) → k < length ts → is_term (term_at ts (suc k)) t ≡ false) → number_of ts t ≡ 0
 unfolding number_of
-one_more [] t d i lt h e = absurd (omega arith)
-one_more (s ∷ ts) t d zero lt h e = ap (λ (b : Bool). cond b 1 0) e
-one_more (s ∷ ts) t d (suc i) lt h e = step (same_term s t) h (λ p. one_more ts t d i (omega arith) p e)
-  where
-    step : (b : Bool) → cond b 1 (one_on (number_of (take i ts) t)) ≡ 0 → (number_of (take i ts) t ≡ 0 → number_of (take (suc i) ts) t ≡ 0) → cond b 1 (one_on (number_of (take (suc i) ts) t)) ≡ 0
-    step true h r = absurd (omega arith)
-    step false h r = ap one_on (r (on_none _ h))
+number_not [] t others = refl
+number_not (x ∷ xs) t others = ap (λ b. cond b 1 (one_on (number_of xs t))) (others 0 (omega arith)) ∙ ap one_on (number_not xs t (λ k h. others (suc k) (omega arith)))
 
-one_found : (ts : List Term) (t d : Term) (i : ℕ) → i < length ts → number_of (take i ts) t ≡ 0 → same_term (get_or ts i d) t ≡ true → number_of ts t ≡ suc i
-unfolding number_of
-one_found [] t d i lt h e = absurd (omega arith)
-one_found (s ∷ ts) t d zero lt h e = ap (λ (b : Bool). cond b 1 (one_on (number_of ts t))) e
-one_found (s ∷ ts) t d (suc i) lt h e = step (same_term s t) h (λ p. one_found ts t d i (omega arith) p e)
-  where
-    step : (b : Bool) → cond b 1 (one_on (number_of (take i ts) t)) ≡ 0 → (number_of (take i ts) t ≡ 0 → number_of ts t ≡ suc i) → cond b 1 (one_on (number_of ts t)) ≡ suc (suc i)
-    step true h r = absurd (omega arith)
-    step false h r = ap one_on (r (on_none _ h))
-
-pub number_more : (ts : List Term) (t d : Term) (i : ℕ) → i < length ts → number_of (take i ts) t ≡ 0 → same_term (get_or ts i d) t ≡ false → number_of (take (i + 1) ts) t ≡ 0
-number_more ts t d i lt h e = subst (λ (k : ℕ). number_of (take k ts) t ≡ 0) (sym (add-one i)) (one_more ts t d i lt h e)
-
-pub number_found : (ts : List Term) (t d : Term) (i : ℕ) → i < length ts → number_of (take i ts) t ≡ 0 → same_term (get_or ts i d) t ≡ true → i + 1 ≡ number_of ts t
-number_found ts t d i lt h e = omega (arith, one_found ts t d i lt h e)
-
-pub number_none : (ts : List Term) (t : Term) (n : ℕ) → length ts ≤ n → number_of (take n ts) t ≡ 0 → 0 ≡ number_of ts t
-number_none ts t n le h = sym (subst (λ (l : List Term). number_of l t ≡ 0) (take_all n ts le) h)
+-- the first number from 1 on whose term this is
+pub number_found : (ts : List Term) (t : Term) (r : Option ℕ) (end : ℕ) → end ≡ length ts + 1
+    → MatchOption r ((k : ℕ) → 1 ≤ k → k < end → is_term (term_at ts k) t ≡ false) (λ i. (1 ≤ i) × (i < end) × (is_term (term_at ts i) t ≡ true) × ((k : ℕ) → 1 ≤ k → k < i → is_term (term_at ts k) t ≡ false))
+    → r ≡ told_number (number_of ts t)
+number_found ts t None end e h = sym (ap told_number (number_not ts t (λ k l. h (suc k) (omega arith) (omega arith))))
+number_found ts t (Some zero) end e h = absurd (omega (arith, h.0))
+number_found ts t (Some (suc i)) end e h = sym (ap told_number (number_is ts t i h.2 (λ k l. h.3 (suc k) (omega arith) (omega arith))))
 
 -- ---- limits
 

@@ -38,6 +38,11 @@ term_at (x ∷ xs) zero = None
 term_at (x ∷ xs) (suc zero) = Some x
 term_at (x ∷ xs) (suc (suc n)) = term_at xs (suc n)
 
+-- whether what is found is the term
+abbrev pub is_term : Option Term → Term → Bool
+is_term None t = false
+is_term (Some x) t = same_term x t
+
 -- ---- entering
 
 -- a term that is not there goes behind the others

@@ -1,7 +1,7 @@
 // Terms and their numbers.
 ghost use Rattle.std.specs.Prelude.{◌≡◌, ◌<◌, map, length, get_or, slice_index_or};
 ghost use Rattle.room.specs.Items.{items};
-ghost use Rattle.lexicon.specs.Numbering.{bytes_of, number_of, same_term, term as the, term_at, tell, told_number};
+ghost use Rattle.lexicon.specs.Numbering.{bytes_of, number_of, is_term, term as the, term_at, tell, told_number};
 ghost use Rattle.lexicon.specs.Parts.{no_term};
 ghost use Rattle.lexicon.specs.Held.{held, kind_of};
 
@@ -51,22 +51,19 @@ impl Lexicon {
         Some((*kind, self.bytes_at(place)))
     }
 
-    fn is_at(&self, place: usize, kind: Kind, bytes: &[u8]) -> bool
-        requires { place < length (items self.now.kinds) }
-        ensures { result ≡ same_term (slice_index_or (held self.now) place no_term) (the kind bytes.now) }
+    fn is_term(&self, number: u16, kind: Kind, bytes: &[u8]) -> bool
+        ensures { result ≡ is_term (term_at (held self.now) number) (the kind bytes.now) }
     {
-        self.kinds.as_slice()[place] == kind && self.bytes_at(place) == bytes
+        self.term(number)
+            .is_some_and(|(k, x)| k == kind && x == bytes)
     }
 
-    // The number of a term, if it is there. By place, since kind and part stand in a list each, and the bytes in the text.
+    // The number of a term, if it is there.
+    #[tactic(auto, using(crate::proofs::Holding::held_few))]
     pub fn number(&self, kind: Kind, bytes: &[u8]) -> Option<u16>
         ensures { result ≡ told_number (number_of (held self.now) (the kind bytes.now)) }
     {
-        for place in 0..self.kinds.len() {
-            if self.is_at(place, kind, bytes) {
-                return Some((place + 1) as u16);
-            }
-        }
-        None
+        let end = self.count() as u16 + 1;
+        (1..end).find(|number| self.is_term(*number, kind, bytes))
     }
 }

@@ -23,9 +23,7 @@ impl Lexicon {
         ensures answer { result ≡ spells (term_at (held self.now) number) out.old }
         ensures buffer { out.new ≡ spelled (term_at (held self.now) number) out.old }
     {
-        let Some((kind, bytes)) = self.term(number) else {
-            return Err(Unwritten::NoSuch);
-        };
+        let (kind, bytes) = self.term(number).ok_or(Unwritten::NoSuch)?;
         let size = bytes.len() + 2;
         if out.len() < size {
             return Err(Unwritten::TooShort);
