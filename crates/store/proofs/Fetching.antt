@@ -19,7 +19,7 @@ use Rattle.std.proofs.lemmas.List.{take_more, map_push}
 use Rattle.shelf.specs.declared.items.Mark.TheVariants as Mark
 use Rattle.store.specs.declared.record.Entry.{Entry}
 use Rattle.store.specs.State.{State, parts_of, fits, noted, shelved, marked, listed as by_number}
-use Rattle.store.specs.Looking.{Enters, Gathering, Fetched, Copied, address_of}
+use Rattle.store.specs.Looking.{Enters, Gathering, Fetched}
 use Rattle.store.proofs.Keeping.{fits_is, is_fit}
 use Rattle.store.specs.Gathered.{Gathered}
 use Rattle.store.proofs.Asking.{some_in, none_in}
@@ -310,17 +310,13 @@ fetched_back {C} mk l xs ts us vs ls ms os m n e g em ev en eo =
 
 -- ---- the address
 
-pub size_min : (x : List ℕ) (n : ℕ) → n ≡ min (length x) 129 → (n ≤ 129) × (n ≤ length x) × (take n x ≡ take 129 x)
-size_min x n e = (omega (arith, e), omega (arith, e), go (leb (length x) 129) refl)
+-- all of an address, or the first 129 bytes, at the front of a buffer
+pub copied : (x : List ℕ) (n : ℕ) (front rest : List ℕ) → n ≡ min (length x) 129 → front ≡ take n x → take n (front ++ rest) ≡ take 129 x
+copied x n front rest e f = take_at front rest n (ap length f ∙ length-take n x ∙ omega (arith, e)) ∙ f ∙ go (leb (length x) 129) refl
   where
     go : (b : Bool) → leb (length x) 129 ≡ b → take n x ≡ take 129 x
     go true t = let h = leb-true _ _ t in take_all n x (omega (arith, e, h)) ∙ sym (take_all 129 x h)
     go false t = let h : n ≡ 129 = omega (arith, e, leb-false _ _ t) in ap (λ k. take k x) h
-
-pub copied_so : (o : Option Term) (x : List ℕ) (n : ℕ) (front rest : List ℕ) → Some (term Iri x) ≡ o → (n ≤ 129) × (n ≤ length x) × (take n x ≡ take 129 x) → front ≡ take n x → Copied (address_of o) (Some n) (front ++ rest)
-copied_so o x n front rest e h f =
-    let long : length front ≡ n = ap length f ∙ length-take n x ∙ omega (arith, h.1) in
-    subst (λ (p : Option Term). Copied (address_of p) (Some n) (front ++ rest)) e (n, refl, h.0, take_at front rest n long ∙ f ∙ h.2)
 
 -- 129 bytes or more are no IRI, and no Web has anything there
 long_absent : {C : Type 0} (meaning : List ℕ → Looked C) → ((iri : List ℕ) → Lawful iri (meaning iri)) → (x : List ℕ) → 128 < length x → meaning x ≡ absent

@@ -2,7 +2,7 @@
 use Rattle.std.proofs.Common.{◌≡◌, ℕ, ◌<◌, ◌≤◌, true, false, cond, List, [], ◌∷◌, ◌++◌, length, take, Some, None, Ok, Err, Option, sym, refl, ap, ◌∙◌, arith, le-leb}
 use borrow.Author.Tests.{lt-leb}
 use Rattle.terms.specs.Terms.{Term}
-use Rattle.lexicon.specs.Numbering.{term_at}
+use Rattle.lexicon.specs.Numbering.{tell, term_at}
 use Rattle.shelf.specs.declared.items.Listed.{Listed}
 use Rattle.shelf.specs.declared.items.Noted.{Noted}
 use Rattle.web.specs.Agreement.{Tells}
@@ -12,7 +12,7 @@ use Rattle.store.specs.declared.record.Entry.{Entry}
 use Rattle.store.specs.declared.refusals.Unlooked.TheVariants.{Full, NoSuch}
 use Rattle.store.specs.Places.{entries_of}
 use Rattle.store.specs.State.{State, noted}
-use Rattle.store.specs.Looking.{address_of, looked_at, answered_at, full, looked, looks, Copied, Fetched}
+use Rattle.store.specs.Looking.{address_of, looked_at, answered_at, full, looked, looks, Fetched}
 use Rattle.store.proofs.Recording.{entries_behind}
 
 pub full_is : (s : State) → 256 ≤ length s.entries → full s ≡ true
@@ -33,19 +33,16 @@ looked_free tells n s a e f = (
   ap (λ (o : Option (List ℕ)). looked_at o tells n s) (sym f) ∙ sym (ap (λ b. cond b s (looked_at (address_of (term_at s.terms n)) tells n s)) e),
 )
 
-copied_none : (a : Option (List ℕ)) (out : List ℕ) → Copied a None out → a ≡ None
-copied_none None out h = refl
-copied_none (Some x) out h = let e : None ≡ Some h.0 = h.1 in let z : ◌≡◌ {A = ℕ} 0 1 = cc in absurd (omega arith)
+copied_none : (a : Option (List ℕ)) → None ≡ tell (take 129) a → a ≡ None
+copied_none None e = refl
+copied_none (Some x) e = let z : ◌≡◌ {A = ℕ} 0 1 = cc in absurd (omega arith)
 
-pub copied_some : (a : Option (List ℕ)) (n : ℕ) (out : List ℕ) → Copied a (Some n) out → (x : List ℕ) × (a ≡ Some x) × (n ≤ 129) × (take n out ≡ take 129 x)
-copied_some None n out h = let e : Some n ≡ None = h in let z : ◌≡◌ {A = ℕ} 0 1 = cc in absurd (omega arith)
-copied_some (Some x) n out h =
-    let e : Some n ≡ Some h.0 = h.1 in
-    let m : n ≡ h.0 = cc in
-    (x, refl, omega (arith, m, h.2), ap (λ k. take k out) m ∙ h.3)
+pub copied_some : (a : Option (List ℕ)) (y : List ℕ) → Some y ≡ tell (take 129) a → (x : List ℕ) × (a ≡ Some x) × (y ≡ take 129 x)
+copied_some None y e = let z : ◌≡◌ {A = ℕ} 0 1 = cc in absurd (omega arith)
+copied_some (Some x) y e = (x, refl, cc)
 
-pub looked_nowhere : (tells : Tells) (n : ℕ) (s : State) (out : List ℕ) → full s ≡ false → Copied (address_of (term_at s.terms n)) None out → (Err NoSuch ≡ looks n s) × (s ≡ looked tells n s)
-looked_nowhere tells n s out e h = looked_free tells n s None e (copied_none (address_of (term_at s.terms n)) out h)
+pub looked_nowhere : (tells : Tells) (n : ℕ) (s : State) → full s ≡ false → None ≡ tell (take 129) (address_of (term_at s.terms n)) → (Err NoSuch ≡ looks n s) × (s ≡ looked tells n s)
+looked_nowhere tells n s e h = looked_free tells n s None e (copied_none _ h)
 
 pub looked_there : (tells : Tells) (n : ℕ) (s : State) (x : List ℕ) (t : Told) (ns : List Noted) (m : Mark) (us : List Term) (ms : List Listed) (os : List Noted) (f : ℕ) → full s ≡ false → address_of (term_at s.terms n) ≡ Some x → t ≡ tells x → s.entries ≡ entries_of ns → Fetched t s.terms s.triples m us ms → os ≡ ns ++ record { iri = n; mark = m; first = f } ∷ []
     → (Ok tt ≡ looks n s) × (record { terms = us; entries = entries_of os; triples = ms } ≡ looked tells n s)

@@ -5,3 +5,4 @@ pub mod Entering
 pub mod Looking
 pub mod Gathered
 pub mod View
+pub mod Address

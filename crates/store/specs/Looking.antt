@@ -1,5 +1,5 @@
 -- What looking an IRI up answers, and what is kept then.
-use Rattle.std.specs.Prelude.{◌≡◌, ℕ, ◌+◌, ◌≤◌, Bool, true, false, cond, List, [], ◌∷◌, ◌++◌, map, length, take, Some, None, Ok, Err, Option, Result, nat_le}
+use Rattle.std.specs.Prelude.{◌≡◌, ℕ, ◌+◌, ◌≤◌, Bool, true, false, cond, List, [], ◌∷◌, ◌++◌, map, length, Some, None, Ok, Err, Option, Result, nat_le}
 use Rattle.terms.specs.Terms.{Term}
 use Rattle.terms.specs.declared.kind.Kind.{Kind}
 use Rattle.terms.specs.declared.kind.Kind.TheVariants.{Iri, Literal}
@@ -64,8 +64,3 @@ pub record Fetched (t : Told) (ts : List Term) (ls : List Listed) (m : Mark) (us
   pub kept : (n : ℕ) (es : List Entry) → ◌≡◌ {A = State} (record { terms = us; entries = es ++ record { iri = n; mark = m } ∷ []; triples = ms }) (noted t n (record { terms = ts; entries = es; triples = ls }))
   pub grows : length ms ≡ length ls + size m
   pub few : length ls ≤ 4096 → length ms ≤ 4096
-
--- the address was copied. Of a longer one 129 bytes are: that many are no IRI either
-abbrev pub Copied : Option (List ℕ) → Option ℕ → List ℕ → Type 0
-Copied None r out = r ≡ None
-Copied (Some x) r out = (n : ℕ) × (r ≡ Some n) × (n ≤ 129) × (take n out ≡ take 129 x)

@@ -33,7 +33,7 @@ fn enter_all(terms: &mut Lexicon, question: &Question) -> Option<()>
     Some(())
 }
 
-// Counts the places as above. A question has no more terms than there is room for.
+// Counts the places as above. A question has no more terms than there is room for. 0 is the number of no term.
 fn number_all(terms: &Lexicon, question: &Question, numbers: &mut Room<u16, 2048>)
     ensures { items numbers.new ≡ map (number_of (held terms.now)) (asked question.now).terms }
 {
@@ -54,6 +54,7 @@ impl Store {
     {
         let terms = &mut self.documents.terms;
         let known = terms.count();
+        // No `?`, since those that did enter are forgotten first.
         if enter_all(terms, question).is_none() {
             terms.cut(known);
             return Err(TermsUnfit);

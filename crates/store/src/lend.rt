@@ -60,12 +60,7 @@ impl Store {
     pub fn trace(&self, place: usize) -> Result<Entry, NoEntry>
         ensures { result ≡ traced (view self.now).entries place }
     {
-        match self.noted.as_slice().get(place) {
-            Some(noted) => Ok(Entry {
-                iri: noted.iri,
-                mark: noted.mark,
-            }),
-            None => Err(NoEntry),
-        }
+        let noted = self.noted.as_slice().get(place).ok_or(NoEntry)?;
+        Ok(Entry::from(*noted))
     }
 }

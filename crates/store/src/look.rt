@@ -1,14 +1,16 @@
 // What a lookup adds to what is kept.
-ghost use Rattle.std.specs.Prelude.{◌≡◌, ◌+◌, ◌≤◌, List, length, is_some, Some};
+ghost use Rattle.std.specs.Prelude.{◌≡◌, ◌+◌, ◌≤◌, List, length, take, is_some, Some};
 ghost use Rattle.room.specs.Items.{items};
 ghost use Rattle.terms.specs.Terms.{Term};
 ghost use Rattle.lexicon.specs.Held.{held};
-ghost use Rattle.lexicon.specs.Numbering.{term_at};
+ghost use Rattle.lexicon.specs.Numbering.{tell, term_at};
 ghost use Rattle.web.specs.Agreement.{tells_of};
 ghost use Rattle.web.specs.Meaning.{Triple, cell, found, told};
-ghost use Rattle.store.specs.Looking.{address_of, looked, looks, unlooked_number, Copied, Enters, Fetched, Gathering};
+ghost use Rattle.store.specs.Looking.{address_of, looked, looks, unlooked_number, Enters, Fetched, Gathering};
+ghost use Rattle.store.specs.Address.{address_bytes};
 ghost use Rattle.store.specs.View.{view};
 
+use crate::address::Address;
 use crate::documents::Documents;
 use crate::refusals::Unlooked;
 use crate::store::Store;
@@ -36,13 +38,8 @@ fn enter_part<W: Web>(
     ensures { (t : Term) → cell (W.Web.meaning web.now iri.now) place part ≡ Some t → length t.bytes ≤ 128 → Enters t (held terms.old) result (held terms.new) }
 {
     let mut out = [0u8; 128];
-    match web.read(iri, place, part, &mut out) {
-        Ok(written) => {
-            let length = written.length;
-            terms.enter(written.kind, &out[0..length])
-        }
-        Err(_) => None,
-    }
+    let written = web.read(iri, place, part, &mut out).ok()?;
+    terms.enter(written.kind, &out[..written.length])
 }
 
 impl Documents {
@@ -88,20 +85,30 @@ impl Documents {
     }
 }
 
-// Copies the bytes of an IRI, since terms enter while it is in use. Nothing is allocated, so there is a buffer with its length. More than 128 bytes are no
-// IRI, and 129 show it.
-fn address(terms: &Lexicon, iri: u16, out: &mut [u8]) -> Option<usize>
-    requires { 129 ≤ length out.old }
-    ensures { Copied (address_of (term_at (held terms.now) iri)) result out.new }
+impl Address {
+    // Copies all of these, or the first 129.
+    fn new(bytes: &[u8]) -> Address
+        ensures { address_bytes result ≡ take 129 bytes.now }
+    {
+        let size = bytes.len().min(129);
+        let mut copy = [0; 129];
+        copy[..size].copy_from_slice(&bytes[..size]);
+        Address { bytes: copy, size }
+    }
+
+    fn as_slice(&self) -> &[u8]
+        ensures { result.now ≡ address_bytes self.now }
+    {
+        &self.bytes[..self.size]
+    }
+}
+
+fn address(terms: &Lexicon, iri: u16) -> Option<Address>
+    ensures { tell address_bytes result ≡ tell (take 129) (address_of (term_at (held terms.now) iri)) }
 {
-    let (kind, bytes) = terms.term(iri)?;
-    match kind {
-        Kind::Iri => {
-            let size = bytes.len().min(129);
-            out[..size].copy_from_slice(&bytes[..size]);
-            Some(size)
-        }
-        Kind::Literal => None,
+    match terms.term(iri)? {
+        (Kind::Iri, bytes) => Some(Address::new(bytes)),
+        (Kind::Literal, _) => None,
     }
 }
 
@@ -115,12 +122,9 @@ impl Store {
         if self.noted.is_full() {
             return Err(Unlooked::Full);
         }
-        let mut copy = [0u8; 129];
-        let Some(size) = address(&self.documents.terms, iri, &mut copy) else {
-            return Err(Unlooked::NoSuch);
-        };
+        let address = address(&self.documents.terms, iri).ok_or(Unlooked::NoSuch)?;
         let first = self.documents.triples.len();
-        let mark = self.documents.fetch(web, &copy[..size]);
+        let mark = self.documents.fetch(web, address.as_slice());
         let _ = self.noted.push(Noted { iri, mark, first });
         Ok(())
     }

@@ -1,4 +1,4 @@
-// Why a store declines.
+// Why a store declines. What has one reason is a struct: an enum of one variant would only name it twice.
 
 // The terms of a question would pass a limit.
 #[derive(Clone, Copy)]

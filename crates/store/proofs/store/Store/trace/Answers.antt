@@ -1,14 +1,16 @@
-use Rattle.std.proofs.Common.{List, length, get_or, ap, ◌∙◌, arith}
+use Rattle.std.proofs.Common.{length, sym, ap, ◌∙◌, arith, ltb-false}
+use Rattle.std.proofs.lemmas.Result.{err_from_is_err_and}
+use Rattle.std.proofs.lemmas.Grind.{common_steps}
+use Rattle.std.proofs.lemmas.Option.{gets}
 use Rattle.room.specs.Items.{items}
-use Rattle.shelf.specs.declared.items.Noted.{Noted}
 use Rattle.store.proofs.Recording.{traced_at, traced_past}
 use Rattle.store.proofs.store.Store.trace.Goals as goal
 
-pub returns-in-Some : goal.returns-in-Some
-returns-in-Some c =
-    let n = c.in-Some.noted.now in
-    let read = c.in-Some.ensures.lookup in
-    traced_at (items c.args.self.now.noted) c.args.place n (omega (arith, read.3.0, ap length c.as_slice.ensures)) (read.1 ∙ ap (λ (ns : List Noted). get_or ns c.args.place n) c.as_slice.ensures)
+pub returns-in_err-noted : goal.returns-in_err-noted
+returns-in_err-noted c =
+    let e = err_from_is_err_and c.from_residual.result c.from_residual.ensures.1 in
+    let past = ltb-false c.args.place _ (sym (c.in_err-noted.ensures.variant ∙ c.get.ensures.lookup.0)) in
+    e.1 ∙ traced_past (items c.args.self.now.noted) c.args.place (omega (arith, past, ap length c.as_slice.ensures))
 
-pub returns-in-None : goal.returns-in-None
-returns-in-None c = traced_past (items c.args.self.now.noted) c.args.place (omega (arith, c.in-None.ensures.lookup.3, ap length c.as_slice.ensures))
+pub returns : goal.returns
+returns c = grind (arith, common_steps, gets, traced_at)
