@@ -1,5 +1,5 @@
 // Terms and their numbers.
-ghost use Rattle.std.specs.Prelude.{◌≡◌, ◌<◌, map, length, get_or, slice_index_or};
+ghost use Rattle.std.specs.Prelude.{◌≡◌, ◌<◌, map, length, get_or};
 ghost use Rattle.room.specs.Items.{items};
 ghost use Rattle.lexicon.specs.Numbering.{bytes_of, number_of, is_term, term as the, term_at, tell, told_number};
 ghost use Rattle.lexicon.specs.Parts.{no_term};

@@ -1,5 +1,5 @@
 // Terms with their marks.
-ghost use Rattle.std.specs.Prelude.{◌≡◌, ◌+◌, ◌≤◌, [], ◌∷◌, ◌++◌, length, drop};
+ghost use Rattle.std.specs.Prelude.{◌≡◌, ◌+◌, ◌≤◌, ◌++◌, length, drop};
 ghost use Rattle.lexicon.specs.Numbering.{term as the, term_at};
 ghost use Rattle.lexicon.specs.Spelling.{spelling, spells, spelled};
 ghost use Rattle.lexicon.specs.Held.{held};

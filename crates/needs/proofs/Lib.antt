@@ -1,3 +1,4 @@
 pub mod Firsts
 pub mod Ordering
 pub mod Lowering
+mod Reducing

@@ -1,5 +1,6 @@
 -- The lowest of what is missing, term by term.
-use Rattle.std.proofs.Common.{◌≡◌, ℕ, ◌+◌, ◌≤◌, Bool, true, false, cond, not, ◌&&◌, leb, List, length, is_some, Some, None, Option, sym, refl, ap, ◌∙◌, ap₂, arith, leb-false, leb-true}
+use Rattle.std.proofs.Common.{◌≡◌, ℕ, zero, suc, ◌+◌, ◌≤◌, Bool, true, false, cond, not, ◌&&◌, leb, List, [], ◌∷◌, filter, length, is_some, Some, None, Option, sym, refl, ap, ◌∙◌, ap₂, subst, arith, leb-false, leb-true}
+use Rattle.std.specs.List.{fold, reduce, range_with_len}
 use Rattle.terms.specs.Terms.{Term}
 use Rattle.lexicon.specs.Numbering.{term_at}
 use Rattle.lexicon.proofs.Numbers.{term_zero, term_past, not_true}
@@ -88,3 +89,34 @@ lowest_end s ws k (Some i) h l = (l.0, λ m f. go m f (leb m k) refl)
     go : (m : ℕ) → missing s ws m ≡ true → (b : Bool) → leb m k ≡ b → lower (term_at s.terms m) (term_at s.terms i) ≡ false
     go m f true e = l.1 m (leb-true m k e) f
     go m f false e = clash (missing s ws m) f (no_term_lem s ws m (term_past s.terms m (omega (arith, leb-false m k e, h))))
+
+-- ---- one after the other
+
+-- the lowest of what was found before and of these
+abbrev then : List Term → Option ℕ → List ℕ → Option ℕ
+then ts None xs = reduce (λ l x. lower_of ts x (Some l)) xs
+then ts (Some l) xs = Some (fold (λ m x. lower_of ts x (Some m)) l xs)
+
+then_none : (ts : List Term) (r : Option ℕ) → then ts r [] ≡ r
+then_none ts None = refl
+then_none ts (Some l) = refl
+
+then_more : (ts : List Term) (r : Option ℕ) (x : ℕ) (xs : List ℕ) → then ts (Some (lower_of ts x r)) xs ≡ then ts r (x ∷ xs)
+then_more ts None x xs = refl
+then_more ts (Some l) x xs = refl
+
+at : (s : State) (ws : List Bool) (j k : ℕ) (r q : Option ℕ) → j ≡ k → r ≡ q → LowestTo s ws j r → LowestTo s ws k q
+at s ws j k r q e f h = subst (λ (i : ℕ). LowestTo s ws i q) e (subst (λ (o : Option ℕ). LowestTo s ws j o) f h)
+
+lowest_from : (s : State) (ws : List Bool) (n k : ℕ) (r : Option ℕ) → LowestTo s ws k r → LowestTo s ws (k + n) (then s.terms r (filter (missing s ws) (range_with_len (k + 1) n)))
+lowest_from s ws zero k r h = at s ws k (k + 0) r (then s.terms r []) (omega arith) (sym (then_none s.terms r)) h
+lowest_from s ws (suc n) k r h = go (filter (missing s ws) (range_with_len (k + 1 + 1) n)) (missing s ws (k + 1)) refl (λ q g. lowest_from s ws n (k + 1) q g)
+  where
+    go : (rest : List ℕ) (b : Bool) → missing s ws (k + 1) ≡ b → ((q : Option ℕ) → LowestTo s ws (k + 1) q → LowestTo s ws (k + 1 + n) (then s.terms q rest)) → LowestTo s ws (k + suc n) (then s.terms r (cond b ((k + 1) ∷ rest) rest))
+    go rest true e f =
+        let l = Some (lower_of s.terms (k + 1) r) in
+        at s ws (k + 1 + n) (k + suc n) (then s.terms l rest) (then s.terms r ((k + 1) ∷ rest)) (omega arith) (then_more s.terms r (k + 1) rest) (f l (lowest_more s ws k (k + 1) r h refl e))
+    go rest false e f = at s ws (k + 1 + n) (k + suc n) (then s.terms r rest) (then s.terms r rest) (omega arith) refl (f r (lowest_same s ws k r h e))
+
+pub lowest_all : (s : State) (ws : List Bool) (r : Option ℕ) → r ≡ reduce (λ l x. lower_of s.terms x (Some l)) (filter (missing s ws) (range_with_len 1 (length s.terms))) → Lowest s ws r
+lowest_all s ws r e = subst (λ (o : Option ℕ). Lowest s ws o) (sym e) (lowest_end s ws (0 + length s.terms) _ (omega arith) (lowest_from s ws (length s.terms) 0 None (lowest_start s ws)))

@@ -1,5 +1,5 @@
 // The bytewise lowest of the IRIs that are missing.
-ghost use Rattle.std.specs.Prelude.{◌≡◌, is_some};
+ghost use Rattle.std.specs.Prelude.{◌≡◌, is_some, Some};
 ghost use Rattle.lexicon.specs.Numbering.{term_at};
 ghost use Rattle.store.specs.Looking.{address_of};
 ghost use Rattle.needs.specs.Needs.{lower, lower_of, missing, Lowest};
@@ -12,13 +12,10 @@ use terms::Kind;
 fn is_lower(store: &Store, a: u16, b: u16) -> bool
     ensures { result ≡ lower (term_at (view store.now).terms a) (term_at (view store.now).terms b) }
 {
-    let Some((_, x)) = store.terms().term(a) else {
-        return false;
-    };
-    let Some((_, y)) = store.terms().term(b) else {
-        return false;
-    };
-    x < y
+    match (store.terms().term(a), store.terms().term(b)) {
+        (Some((_, x)), Some((_, y))) => x < y,
+        _ => false,
+    }
 }
 
 fn is_iri(store: &Store, number: u16) -> bool
@@ -35,29 +32,18 @@ fn is_missing(store: &Store, wanted: &[bool], number: u16) -> bool
 }
 
 // The lower of two that are missing.
-fn lower_of(store: &Store, number: u16, lowest: Option<u16>) -> u16
-    ensures { result ≡ lower_of (view store.now).terms number lowest }
+fn lower_of(store: &Store, a: u16, b: u16) -> u16
+    ensures { result ≡ lower_of (view store.now).terms a (Some b) }
 {
-    let Some(other) = lowest else {
-        return number;
-    };
-    if is_lower(store, number, other) {
-        number
-    } else {
-        other
-    }
+    if is_lower(store, a, b) { a } else { b }
 }
 
 // The IRI to look up next: of those that are wanted and not in the record, the bytewise lowest.
 pub fn lowest_missing(store: &Store, wanted: &[bool]) -> Option<u16>
     ensures { Lowest (view store.now) wanted.now result }
 {
-    let mut lowest = None;
-    for place in 0..store.terms().count() {
-        let number = (place + 1) as u16;
-        if is_missing(store, wanted, number) {
-            lowest = Some(lower_of(store, number, lowest));
-        }
-    }
-    lowest
+    let end = store.terms().count() as u16 + 1;
+    (1..end)
+        .filter(|number| is_missing(store, wanted, *number))
+        .reduce(|lowest, number| lower_of(store, number, lowest))
 }

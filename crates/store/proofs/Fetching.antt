@@ -1,19 +1,16 @@
 -- Triples that are read from a Web and enter one after the other.
-use Rattle.std.proofs.Common.{◌≡◌, ℕ, zero, suc, ◌+◌, ◌<◌, ◌≤◌, Bool, true, false, cond, ◌&&◌, leb, List, [], ◌∷◌, ◌++◌, map, length, get_or, take, drop, min, is_some, Some, None, Ok, Err, Option, Result, sym, refl, ap, ◌∙◌, subst, ap₂, append_assoc, append-nil, arith, length-append, take-append-drop, length-take, take_all, take_at, le-leb, leb-false, leb-true}
+use Rattle.std.proofs.Common.{◌≡◌, ℕ, zero, suc, ◌+◌, ◌<◌, ◌≤◌, Bool, true, false, cond, ◌&&◌, leb, List, [], ◌∷◌, ◌++◌, map, length, get_or, take, drop, min, is_some, Some, None, Ok, Option, sym, refl, ap, ◌∙◌, subst, ap₂, append_assoc, append-nil, arith, length-append, take-append-drop, length-take, take_all, take_at, leb-false, leb-true}
 use lib.ListN.{length-map}
 use Rattle.terms.specs.Terms.{Term}
 use Rattle.terms.specs.declared.kind.Kind.{Kind}
 use Rattle.terms.specs.declared.kind.Kind.TheVariants.{Iri, Literal}
 use Rattle.terms.specs.Lawful.{is_iri, lawful_bytes, lawful as lawful_term}
-use Rattle.lexicon.specs.Numbering.{term, number_of, enter, enter_all, within}
+use Rattle.lexicon.specs.Numbering.{number_of, enter, enter_all, within}
 use Rattle.lexicon.specs.Parts.{no_term}
 use Rattle.lexicon.proofs.Numbers.{and_left, and_right, enter_all_append, enter_all_front, enter_front, within_front, number_entered, number_stays, number_front, not_true}
 use Rattle.shelf.specs.declared.items.Listed.{Listed}
 use Rattle.web.specs.Laws.{Lawful, is_kind_iri, lawful_iri, lawful_triple, lawful_triples}
-use Rattle.web.specs.declared.answers.Written.{Written}
-use Rattle.terms.specs.declared.unwritten.Unwritten.{Unwritten}
-use Rattle.terms.specs.declared.unwritten.Unwritten.TheVariants.{TooShort}
-use Rattle.web.specs.Answers.{answer, tells, leaves, written}
+use Rattle.web.specs.Answers.{answer}
 use Rattle.web.specs.Meaning.{Triple, Looked, found, absent, broken, cell, listed, part_of, told, triples, Mark as Cause}
 use Rattle.std.proofs.lemmas.List.{take_more, map_push}
 use Rattle.shelf.specs.declared.items.Mark.TheVariants as Mark
@@ -23,22 +20,6 @@ use Rattle.store.specs.Looking.{Enters, Gathering, Fetched}
 use Rattle.store.proofs.Keeping.{fits_is, is_fit}
 use Rattle.store.specs.Gathered.{Gathered}
 use Rattle.store.proofs.Asking.{some_in, none_in}
-
--- ---- one term read
-
-err_ok : {X : Type 0} (u : Unwritten) (w : Written) → ◌≡◌ {A = Result Written Unwritten} (Ok w) (Err u) → X
-err_ok u w e = let z : ◌≡◌ {A = ℕ} 0 1 = cc in absurd (omega arith)
-
-ok_is : (v w : Written) → ◌≡◌ {A = Result Written Unwritten} (Ok v) (Ok w) → v ≡ w
-ok_is v w e = cc
-
--- what stands at the buffer's front is the term
-pub read_term : (o : Option Term) (t : Term) (buffer out : List ℕ) (w : Written) → o ≡ Some t → length t.bytes ≤ length buffer → Ok w ≡ tells o buffer → out ≡ leaves o buffer → term w.kind (take w.length out) ≡ t
-read_term o t buffer out w e h ew eo =
-    let f : leb (length t.bytes) (length buffer) ≡ true = le-leb _ _ h in
-    let v : w ≡ written t = ok_is w (written t) (ew ∙ ap (λ p. tells p buffer) e ∙ ap (λ b. cond b (Ok (written t)) (Err TooShort)) f) in
-    let x : out ≡ t.bytes ++ drop (length t.bytes) buffer = eo ∙ ap (λ p. leaves p buffer) e ∙ ap (λ b. cond b (t.bytes ++ drop (length t.bytes) buffer) buffer) f in
-    ap₂ (λ (y : Written) (l : List ℕ). term y.kind (take y.length l)) v x ∙ ap (term t.kind) (take_at t.bytes (drop (length t.bytes) buffer) (length t.bytes) refl)
 
 -- ---- the terms of one triple
 

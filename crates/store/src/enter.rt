@@ -22,7 +22,7 @@ impl TermsUnfit {
     }
 }
 
-// Every place below the number of terms has one.
+// By place, as a question tells its terms. Every place below their number has one.
 fn enter_all(terms: &mut Lexicon, question: &Question) -> Option<()>
     ensures { Entering (held terms.old) (asked question.now).terms (is_some result) (held terms.new) }
 {

@@ -43,7 +43,7 @@ fn enter_part<W: Web>(
 }
 
 impl Documents {
-    // The triples of a list enter in order, until one does not fit.
+    // The triples of a list enter in order, by place, as a Web tells them, until one does not fit.
     fn gather<W: Web>(&mut self, web: &W, iri: &[u8], count: usize) -> Option<()>
         requires { length (items self.old.triples) + count ≤ 4096 }
         ensures { (xs : List Triple) → W.Web.meaning web.now iri.now ≡ found xs → count ≡ length xs → Gathering (held self.old.terms) (items self.old.triples) xs (is_some result) (held self.new.terms) (items self.new.triples) }

@@ -1,35 +1,27 @@
-use Rattle.std.proofs.Common.{ℕ, ◌+◌, length, Some, Option, sym, refl, ap, ◌∙◌, subst, arith}
-use Rattle.lexicon.specs.Held.{held}
+use Rattle.std.proofs.Common.{◌≡◌, ◌+◌, ◌-◌, length, Some, refl, ap, rules, tests, arith}
+use Rattle.std.proofs.lemmas.Iterator.{YieldsList-from_range}
+use Rattle.std.proofs.lemmas.Iterator.Consumers.{YieldsList-at, YieldsList-from_filter}
 use Rattle.lexicon.specs.declared.lexicon.Lexicon.{Lexicon}
-use Rattle.lexicon.proofs.Holding.{held_count}
+use Rattle.lexicon.specs.Held.{held}
+use Rattle.lexicon.proofs.Holding.{held_few}
 use Rattle.store.specs.View.{view}
-use Rattle.needs.specs.Needs.{LowestTo}
-use Rattle.needs.proofs.Lowering.{lowest_start, lowest_same, lowest_more, lowest_end}
+use Rattle.needs.specs.Needs.{missing, lower_of}
+use Rattle.needs.proofs.Lowering.{lowest_all}
+use Rattle.needs.proofs.Reducing.{reduced}
 use Rattle.needs.proofs.lowest.lowest_missing.Goals as goal
-use Rattle.needs.proofs.lowest.lowest_missing.Goals.{then-is_missing, else-is_missing}
 
-pub loop-place-init : goal.loop-place-init
-loop-place-init c = lowest_start (view c.args.store.now) c.args.wanted.now
+pub overflow_cast-end : goal.overflow_cast-end
+overflow_cast-end c = omega (arith, c.count.ensures, held_few c.terms.result.now)
 
-pub overflow_cast-number : goal.overflow_cast-number
-overflow_cast-number c =
-    let l = c.terms.result.now in
-    omega (arith, c.loop-place-test.true, c.count-place-end.ensures, held_count l, l.kinds.few)
-
-pub loop-place-preserved : goal.loop-place-preserved
-loop-place-preserved c =
-    let s = view c.args.store.now in
-    let ws = c.args.wanted.now in
-    let k = c.loop-place.place in
-    let next : LowestTo s ws (k + 1) c.if-is_missing.lowest =
-    elim c.if-is_missing.branch [
-      | then-is_missing w ↦ subst (λ (r : Option ℕ). LowestTo s ws (k + 1) r) (sym (w.lowest-is ∙ ap Some w.lower_of.ensures)) (lowest_more s ws k (k + 1) c.loop-place.lowest c.loop-place.invariant refl (sym w.if-is_missing.ensures))
-      | else-is_missing w ↦ subst (λ (r : Option ℕ). LowestTo s ws (k + 1) r) (sym w.lowest-is) (lowest_same s ws k c.loop-place.lowest c.loop-place.invariant (sym w.if-is_missing.ensures))
-    ] in
-    next
+pub overflow_add-end : goal.overflow_add-end
+overflow_add-end c = omega (arith, c.count.ensures, held_few c.terms.result.now)
 
 pub returns : goal.returns
 returns c =
     let s = view c.args.store.now in
-    let n = c.count-place-end.ensures ∙ ap (λ (l : Lexicon). length (held l)) c.terms.ensures in
-    lowest_end s c.args.wanted.now c.loop-place.place c.loop-place.lowest (omega (arith, n, c.loop-place-test.false)) c.loop-place.invariant
+    let ws = c.args.wanted.now in
+    let count : c.count.result + 1 - 1 ≡ length s.terms = omega (arith, c.count.ensures, ap (λ (l : Lexicon). length (held l)) c.terms.ensures) in
+    lowest_all s ws c.reduce.result
+    (reduced _ (λ l x. lower_of s.terms x (Some l)) c.filter.result _ c.reduce.result c.reduce.ensures.ran
+    (YieldsList-from_filter _ (missing s ws) (YieldsList-at c.filter.ensures.source (YieldsList-from_range 1 _ (length s.terms) refl count)) c.filter.ensures.closure (λ x b q k. search (rules, tests)))
+    (λ p x y q k. search (rules, tests)))
