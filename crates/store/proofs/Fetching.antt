@@ -1,5 +1,5 @@
 -- Triples that are read from a Web and enter one after the other.
-use Rattle.std.proofs.Common.{◌≡◌, ℕ, zero, suc, ◌+◌, ◌<◌, ◌≤◌, Bool, true, false, cond, ◌&&◌, leb, List, [], ◌∷◌, ◌++◌, map, length, get_or, take, drop, min, is_some, Some, None, Ok, Option, sym, refl, ap, ◌∙◌, subst, ap₂, append_assoc, append-nil, arith, length-append, take-append-drop, length-take, take_all, take_at, leb-false, leb-true}
+use Rattle.std.proofs.Common.{◌≡◌, ℕ, zero, suc, ◌+◌, ◌<◌, ◌≤◌, Bool, true, false, cond, ◌&&◌, leb, List, [], ◌∷◌, ◌++◌, map, length, get_or, take, drop, min, is_some, Some, None, Ok, Err, IsOk, OnOk, Option, Result, sym, refl, ap, ◌∙◌, subst, ap₂, append_assoc, append-nil, arith, length-append, take-append-drop, length-take, take_all, take_at, leb-false, leb-true}
 use lib.ListN.{length-map}
 use Rattle.terms.specs.Terms.{Term}
 use Rattle.terms.specs.declared.kind.Kind.{Kind}
@@ -291,13 +291,14 @@ fetched_back {C} mk l xs ts us vs ls ms os m n e g em ev en eo =
 
 -- ---- the address
 
--- all of an address, or the first 129 bytes, at the front of a buffer
-pub copied : (x : List ℕ) (n : ℕ) (front rest : List ℕ) → n ≡ min (length x) 129 → front ≡ take n x → take n (front ++ rest) ≡ take 129 x
-copied x n front rest e f = take_at front rest n (ap length f ∙ length-take n x ∙ omega (arith, e)) ∙ f ∙ go (leb (length x) 129) refl
+-- all bytes, or the first 129
+pub copied : {E : Type 0} (x : List ℕ) (n : ℕ) (none copy : List ℕ) (r : Result (Unit {0}) E) → n ≡ min (length x) 129 → none ≡ [] → (length none + length (take n x) ≤ 129 → IsOk r) → OnOk r (copy ≡ none ++ take n x) → copy ≡ take 129 x
+copied x n none copy (Err e) size empty fits made = let ok = fits (omega (arith, size, length-take n x, ap length empty)) in absurd (cc)
+copied x n none copy (Ok u) size empty fits made = made ∙ ap (λ l. l ++ take n x) empty ∙ go (leb (length x) 129) refl
   where
     go : (b : Bool) → leb (length x) 129 ≡ b → take n x ≡ take 129 x
-    go true t = let h = leb-true _ _ t in take_all n x (omega (arith, e, h)) ∙ sym (take_all 129 x h)
-    go false t = let h : n ≡ 129 = omega (arith, e, leb-false _ _ t) in ap (λ k. take k x) h
+    go true t = let h = leb-true _ _ t in take_all n x (omega (arith, size, h)) ∙ sym (take_all 129 x h)
+    go false t = let h : n ≡ 129 = omega (arith, size, leb-false _ _ t) in ap (λ k. take k x) h
 
 -- 129 bytes or more are no IRI, and no Web has anything there
 long_absent : {C : Type 0} (meaning : List ℕ → Looked C) → ((iri : List ℕ) → Lawful iri (meaning iri)) → (x : List ℕ) → 128 < length x → meaning x ≡ absent

@@ -5,4 +5,3 @@ pub mod Entering
 pub mod Looking
 pub mod Gathered
 pub mod View
-pub mod Address

@@ -1,7 +1,6 @@
 // What a session keeps: terms by number, a record of the IRIs that were looked up, and the triples of the documents that were found.
 #![tactic(auto)]
 
-mod address;
 mod documents;
 mod enter;
 mod laws;

@@ -7,13 +7,12 @@ ghost use Rattle.lexicon.specs.Numbering.{tell, term_at};
 ghost use Rattle.web.specs.Agreement.{tells_of};
 ghost use Rattle.web.specs.Meaning.{Triple, cell, found, told};
 ghost use Rattle.store.specs.Looking.{address_of, looked, looks, unlooked_number, Enters, Fetched, Gathering};
-ghost use Rattle.store.specs.Address.{address_bytes};
 ghost use Rattle.store.specs.View.{view};
 
-use crate::address::Address;
 use crate::documents::Documents;
 use crate::refusals::Unlooked;
 use crate::store::Store;
+use arrayvec::ArrayVec;
 use lexicon::Lexicon;
 use shelf::{Listed, Mark, Noted};
 use terms::Kind;
@@ -85,29 +84,21 @@ impl Documents {
     }
 }
 
-impl Address {
-    // Copies all of these, or the first 129.
-    fn new(bytes: &[u8]) -> Address
-        ensures { address_bytes result ≡ take 129 bytes.now }
-    {
-        let size = bytes.len().min(129);
-        let mut copy = [0; 129];
-        copy[..size].copy_from_slice(&bytes[..size]);
-        Address { bytes: copy, size }
-    }
-
-    fn as_slice(&self) -> &[u8]
-        ensures { result.now ≡ address_bytes self.now }
-    {
-        &self.bytes[..self.size]
-    }
+// Copies bytes, of more than 129 the first: an IRI has 128 at most, so 129 show that it is none.
+fn copied(bytes: &[u8]) -> ArrayVec<u8, 129>
+    ensures { result.items ≡ take 129 bytes.now }
+{
+    let mut copy = ArrayVec::new();
+    let _ = copy.try_extend_from_slice(&bytes[..bytes.len().min(129)]);
+    copy
 }
 
-fn address(terms: &Lexicon, iri: u16) -> Option<Address>
-    ensures { tell address_bytes result ≡ tell (take 129) (address_of (term_at (held terms.now) iri)) }
+// The bytes of the IRI with a number, copied, since terms enter while they are in use.
+fn address(terms: &Lexicon, iri: u16) -> Option<ArrayVec<u8, 129>>
+    ensures { tell (λ a. a.items) result ≡ tell (take 129) (address_of (term_at (held terms.now) iri)) }
 {
     match terms.term(iri)? {
-        (Kind::Iri, bytes) => Some(Address::new(bytes)),
+        (Kind::Iri, bytes) => Some(copied(bytes)),
         (Kind::Literal, _) => None,
     }
 }

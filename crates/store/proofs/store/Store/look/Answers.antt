@@ -8,7 +8,6 @@ use Rattle.web.specs.Meaning.{told}
 use Rattle.store.specs.Places.{counts}
 use Rattle.store.specs.Looking.{address_of}
 use Rattle.store.specs.declared.refusals.Unlooked.TheVariants.{NoSuch}
-use Rattle.store.specs.Address.{address_bytes}
 use Rattle.store.specs.View.{view}
 use Rattle.store.proofs.Recording.{view_count, Firsts, counts_behind, firsts_behind}
 use Rattle.store.proofs.Fetching.{address_means}
@@ -25,7 +24,7 @@ pub returns-in_err-address : goal.returns-in_err-address
 returns-in_err-address g c =
     let s = c.args.self.now in
     let e = err_from_is_err_and c.from_residual.result c.from_residual.ensures.1 in
-    let nowhere = ap (tell address_bytes) (sym c.in_err-address.ensures.ok_part) ∙ c.address.ensures in
+    let nowhere = ap (tell (λ a. a.items)) (sym c.in_err-address.ensures.ok_part) ∙ c.address.ensures in
     let r = looked_nowhere (tells_of g.W.Cause.Cause.mark g.W.Web.meaning c.args.web.now) c.args.iri (view s) (full_not (view s) (omega (arith, c.if-is_full.ensures, view_count s))) nowhere in
     let is : Err NoSuch ≡ c.from_residual.result = grind (arith, e.1, e.2, c.in_err-address.ensures.value, c.in_err-address.ensures.ok_part) in
     record { answer = sym is ∙ r.0; after = r.1; numbers = refl }
@@ -44,9 +43,9 @@ pub returns : goal.returns
 returns g c =
     let s = c.args.self.now in
     let w = c.args.web.now in
-    let there = ap (tell address_bytes) (sym c.in_ok-address.ensures.ok_part) ∙ c.address.ensures in
+    let there = ap (tell (λ a. a.items)) (sym c.in_ok-address.ensures.ok_part) ∙ c.address.ensures in
     let x = copied_some (address_of (term_at (view s).terms c.args.iri)) _ there in
-    let at = ap (λ (l : List ℕ). told g.W.Cause.Cause.mark (g.W.Web.meaning w l)) (c.as_slice.ensures ∙ x.2)
+    let at = ap (λ (l : List ℕ). told g.W.Cause.Cause.mark (g.W.Web.meaning w l)) (c.as_slice.ensures.value ∙ x.2)
     ∙ ap (told g.W.Cause.Cause.mark) (address_means (g.W.Web.meaning w) (g.W.Web.lawful w) x.0) in
     let r = looked_there (tells_of g.W.Cause.Cause.mark g.W.Web.meaning w) c.args.iri (view s) x.0 _ (items s.noted) c.fetch-mark.result _ _ _ _ (full_not (view s) (omega (arith, c.if-is_full.ensures, view_count s))) x.1 at refl c.fetch-mark.ensures (c.push.ensures.taken c.if-is_full.ensures) in
     record { answer = r.0; after = r.1; numbers = refl }
