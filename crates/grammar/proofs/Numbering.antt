@@ -1,9 +1,9 @@
 -- Names and numbers say the same.
 use Rattle.std.proofs.Common.{◌≡◌, ℕ, zero, suc, ◌<◌, ◌≤◌, Bool, true, false, cond, not, ◌&&◌, ◌||◌, ltb, List, [], ◌∷◌, ◌++◌, length, get_or, Some, None, Option, sym, refl, ap, ◌∙◌, ap₂, arith, ltb-true}
 use Rattle.std.proofs.lemmas.List.{length_push}
+use Rattle.std.proofs.lemmas.Slice.Eq.{bytes_eq-Decides}
 use Rattle.tokens.specs.Words.{Word, iri, literal, name, open_brace, close_brace, open_paren, close_paren, dot, bar, slash, caret, star, bang, optional, union, wrong, end}
 use Rattle.tokens.specs.Lexed.{same_bytes}
-use Rattle.tokens.proofs.Keywords.{same_decides}
 use Rattle.grammar.specs.declared.refusal.Reason.{Reason}
 use Rattle.grammar.specs.declared.refusal.Reason.TheVariants.{TooManyVariables}
 use Rattle.grammar.specs.Grammar.{Name}
@@ -14,10 +14,10 @@ clash : false ≡ true → ⊥
 clash e = let z : ◌≡◌ {A = ℕ} 0 1 = cc in omega arith
 
 same_is : (x y : Name) → same_bytes x y ≡ true → x ≡ y
-same_is x y e = (same_decides x y).0 e
+same_is x y e = (bytes_eq-Decides x y).0 e
 
 same_self : (x : Name) → same_bytes x x ≡ true
-same_self x = (same_decides x x).1 refl
+same_self x = (bytes_eq-Decides x x).1 refl
 
 and_true : (a b : Bool) → a && b ≡ true → (a ≡ true) × (b ≡ true)
 and_true true b e = (refl, e)

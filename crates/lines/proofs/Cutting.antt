@@ -1,14 +1,14 @@
 -- A line is the longest run of bytes that are no LF.
-use Rattle.std.proofs.Common.{◌≡◌, ℕ, suc, ◌+◌, ◌-◌, ◌<◌, ◌≤◌, Bool, true, false, cond, not, eqb, ◌⊎◌, List, [], ◌∷◌, ◌++◌, length, get_or, take, drop, sym, refl, ap, ◌∙◌, ap₂, inl, inr, arith, eqb-true}
+use Rattle.std.proofs.Common.{◌≡◌, ℕ, suc, ◌+◌, ◌-◌, ◌<◌, ◌≤◌, Bool, true, false, cond, not, eqb, ◌⊎◌, List, [], ◌∷◌, ◌++◌, length, get_or, take, take_while, drop, sym, refl, ap, ◌∙◌, ap₂, inl, inr, arith, eqb-true}
 use Rattle.std.proofs.lemmas.Bool.{cases_lt}
 use Rattle.std.proofs.lemmas.List.{drop_all, drop_more, take_all, take-append-drop, take_rest, length-drop}
+use Rattle.terms.proofs.Runs.{run_take, run_ends, run_more, run_none}
 use Rattle.lines.specs.Lines.{lines, onto}
-use Rattle.lines.specs.Runs.{differs, front}
+use Rattle.lines.specs.Runs.{differs}
 use Rattle.lines.specs.Steps.{Taken}
-use Rattle.lines.proofs.Fronts.{front_ends, front_part}
 
 abbrev pub line : List ℕ → List ℕ
-line bs = front (differs 10) bs
+line bs = take_while (differs 10) bs
 
 pub lines_cons : (b : ℕ) (bs : List ℕ) → lines (b ∷ bs) ≡ cond (eqb b 10) ([] ∷ lines bs) (onto b (lines bs))
 unfolding lines
@@ -20,11 +20,14 @@ lines_nil = refl
 
 -- a byte before a line that is found already
 onto_first : (b : ℕ) (bs : List ℕ) → onto b (lines bs) ≡ (b ∷ line bs) ∷ lines (drop (suc (length (line bs)) + 1) (b ∷ bs)) → lines (b ∷ bs) ≡ line (b ∷ bs) ∷ lines (drop (length (line (b ∷ bs)) + 1) (b ∷ bs))
-onto_first b bs h = lines_cons b bs ∙ go (eqb b 10)
+onto_first b bs h = lines_cons b bs ∙ go (eqb b 10) refl
   where
-    go : (t : Bool) → cond t ([] ∷ lines bs) (onto b (lines bs)) ≡ cond (not t) (b ∷ line bs) [] ∷ lines (drop (length (cond (not t) (b ∷ line bs) []) + 1) (b ∷ bs))
-    go true = refl
-    go false = h
+    by : List ℕ → List (List ℕ)
+    by l = l ∷ lines (drop (length l + 1) (b ∷ bs))
+
+    go : (t : Bool) → eqb b 10 ≡ t → cond t ([] ∷ lines bs) (onto b (lines bs)) ≡ by (line (b ∷ bs))
+    go true e = sym (ap by (run_none (differs 10) b bs (ap not e)))
+    go false e = h ∙ sym (ap by (run_more (differs 10) b bs (ap not e)))
 
 shift : (n : ℕ) → suc (n + 1) ≡ suc n + 1
 shift n = omega arith
@@ -47,23 +50,23 @@ differs_not c b e = go (eqb b c) refl e
 pub line_taken : (n : ℕ) (bs : List ℕ) (k m : ℕ) → 0 < length bs → k ≡ length (line bs) → k ≤ length bs → (k < length bs → m ≡ k + 1) → (length bs ≤ k → m ≡ k) → Taken n bs (take (k - 0) bs) (n + 1) (n + 1) (take (length bs - m) (drop m bs))
 line_taken n bs k m h e w f g = go (cases_lt k (length bs))
   where
+    zero_less : k - 0 ≡ k
+    zero_less = omega arith
+
     rest : List ℕ
     rest = take (length bs - m) (drop m bs)
 
     taken : (bs ≡ take (k - 0) bs ++ (10 ∷ take (length bs - m) (drop m bs))) ⊎ ((bs ≡ take (k - 0) bs) × (take (length bs - m) (drop m bs) ≡ [])) → drop m bs ≡ drop (length (line bs) + 1) bs → 0 < m → Taken n bs (take (k - 0) bs) (n + 1) (n + 1) (take (length bs - m) (drop m bs))
     taken parts d p = record {
       split = parts;
-      first = lines_first bs h ∙ ap₂ (λ l r. l ∷ lines r) (sym (front_part (differs 10) bs k e)) (sym d ∙ sym (take_rest bs m));
+      first = lines_first bs h ∙ ap₂ (λ l r. l ∷ lines r) (sym (ap (λ j. take j bs) (zero_less ∙ e) ∙ run_take (differs 10) bs)) (sym d ∙ sym (take_rest bs m));
       count = refl;
       next = refl;
       less = omega (arith, ap length (take_rest bs m), length-drop m bs);
     }
 
-    zero_less : k - 0 ≡ k
-    zero_less = omega arith
-
     ended_by : k < length bs → get_or bs k 0 ≡ 10
-    ended_by l = differs_not 10 (get_or bs k 0) (ap (λ i. differs 10 (get_or bs i 0)) e ∙ front_ends (differs 10) bs (omega arith))
+    ended_by l = differs_not 10 (get_or bs k 0) (ap (λ i. differs 10 (get_or bs i 0)) e ∙ run_ends (differs 10) bs (omega arith))
 
     parted : k < length bs → bs ≡ take (k - 0) bs ++ (10 ∷ take (length bs - m) (drop m bs))
     parted l =

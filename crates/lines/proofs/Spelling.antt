@@ -1,18 +1,20 @@
 -- A line says what it spells.
-use Rattle.std.proofs.Common.{◌≡◌, ℕ, Bool, true, false, cond, ◌&&◌, eqb, leb, List, [], ◌∷◌, ◌++◌, length, take, drop, Some, None, codes, Option, sym, refl, ap, ◌∙◌, subst, ap₂, append_assoc, arith, eq-eqb, eqb-true}
+use Rattle.std.proofs.Common.{◌≡◌, ℕ, Bool, true, false, cond, ◌&&◌, eqb, leb, List, [], ◌∷◌, ◌++◌, length, take, take_while, drop, Some, None, codes, Option, sym, refl, ap, ◌∙◌, subst, ap₂, append_assoc, arith, eq-eqb, eqb-true}
+use Rattle.std.specs.List.{list_all}
+use Rattle.std.proofs.lemmas.Bool.{and_parts}
 use Rattle.std.proofs.lemmas.List.{append-nil, take-append-drop, drop_at}
 use Rattle.terms.specs.Bytes.{iri_byte, literal_byte}
-use Rattle.terms.specs.Lawful.{every, is_iri, lawful_bytes}
+use Rattle.terms.specs.Lawful.{is_iri, lawful_bytes}
 use Rattle.terms.specs.Marks as mark
 use Rattle.terms.specs.declared.kind.Kind.{Kind}
 use Rattle.terms.specs.declared.kind.Kind.TheVariants.{Iri, Literal}
+use Rattle.terms.proofs.Runs.{run_take, run_none, run_whole}
 use Rattle.web.specs.Laws.{lawful_triple, lawful_iri, is_kind_iri}
 use Rattle.web.specs.Meaning.{Triple}
 use Rattle.lines.specs.Readings.{nothing, opens, says, and_then, behind, Cut, closed, marked, named, object_kind, ended, opening, triple, statement, or_opens, or_states}
-use Rattle.lines.specs.Runs.{front, term_byte}
+use Rattle.lines.specs.Runs.{term_byte}
 use Rattle.lines.specs.Parts.{some_same, then_inv, marked_inv, named_inv, statement_inv, statement_lawful, ended_inv}
 use Rattle.lines.specs.Spelled.{in_marks, spelled, opening_line, NothingWhenEmpty, OpensAsSpelled, StatesAsSpelled}
-use Rattle.lines.proofs.Fronts.{front_take}
 use Rattle.lines.proofs.Fronted.{then_some}
 use Rattle.lines.proofs.Sayings.{says_nil, says_cons, says_opening, says_statement, states_by, opens_at}
 
@@ -33,25 +35,9 @@ behind_text (c ∷ text) r = ap (λ t. cond t (behind text (text ++ r)) None) (e
 
 -- ---- a term
 
-front_whole : (p : ℕ → Bool) (x : List ℕ) (b : ℕ) (r : List ℕ) → every p x ≡ true → p b ≡ false → front p (x ++ (b ∷ r)) ≡ x
-front_whole p [] b r e f = ap (λ t. cond t (b ∷ front p r) []) f
-front_whole p (d ∷ x) b r e f = go (p d) refl e (front_whole p x b r)
-  where
-    go : (t : Bool) → p d ≡ t → (t && every p x) ≡ true → (every p x ≡ true → p b ≡ false → front p (x ++ (b ∷ r)) ≡ x) → cond t (d ∷ front p (x ++ (b ∷ r))) [] ≡ d ∷ x
-    go true q e h = ap (λ y. d ∷ y) (h e f)
-    go false q e h = let z : ◌≡◌ {A = ℕ} 0 1 = cc in absurd (omega arith)
-
-and_right : (a b : Bool) → (a && b) ≡ true → b ≡ true
-and_right true b e = e
-and_right false b e = let z : ◌≡◌ {A = ℕ} 0 1 = cc in absurd (omega arith)
-
-and_left : (a b : Bool) → (a && b) ≡ true → a ≡ true
-and_left true b e = refl
-and_left false b e = let z : ◌≡◌ {A = ℕ} 0 1 = cc in absurd (omega arith)
-
-lawful_every : (kind : Kind) (x : List ℕ) → lawful_bytes kind x ≡ true → every (term_byte kind) x ≡ true
-lawful_every Iri x e = and_right (leb 1 (length x) && leb (length x) 128) (every iri_byte x) e
-lawful_every Literal x e = and_right (leb (length x) 128) (every literal_byte x) e
+lawful_every : (kind : Kind) (x : List ℕ) → lawful_bytes kind x ≡ true → list_all (term_byte kind) x ≡ true
+lawful_every Iri x e = (and_parts (leb 1 (length x) && leb (length x) 128) (list_all iri_byte x) e).1
+lawful_every Literal x e = (and_parts (leb (length x) 128) (list_all literal_byte x) e).1
 
 -- no term holds its last mark
 closer_stops : (kind : Kind) → term_byte kind (mark.closing kind) ≡ false
@@ -62,7 +48,7 @@ pub marked_spelled : (kind : Kind) (line : List ℕ) (c : Cut) → marked kind l
 marked_spelled kind line c e =
     let m = marked_inv kind line c e in
     let x = c.bytes in
-    let taken : take (length x) m.inner ≡ x = ap (λ y. take (length y) m.inner) m.run ∙ front_take (term_byte kind) m.inner ∙ sym m.run in
+    let taken : take (length x) m.inner ≡ x = ap (λ y. take (length y) m.inner) m.run ∙ run_take (term_byte kind) m.inner ∙ sym m.run in
     let split : m.inner ≡ x ++ (mark.closing kind ∷ c.rest) = sym (take-append-drop (length x) m.inner) ∙ ap₂ (λ y z. y ++ z) taken (behind_inv (mark.closing kind ∷ []) (drop (length x) m.inner) c.rest m.closes) in (
       behind_inv (mark.opening kind ∷ []) line m.inner m.opened ∙ ap (λ y. mark.opening kind ∷ y) (split ∙ sym (append_assoc x (mark.closing kind ∷ []) c.rest)),
       m.lawful,
@@ -71,8 +57,8 @@ marked_spelled kind line c e =
 pub spelled_marked : (kind : Kind) (x r : List ℕ) → lawful_bytes kind x ≡ true → marked kind (in_marks kind x ++ r) ≡ Some (record { bytes = x; rest = r })
 spelled_marked kind x r e =
     let inner : List ℕ = x ++ (mark.closing kind ∷ r) in
-    let front-is : front (term_byte kind) inner ≡ x = front_whole (term_byte kind) x (mark.closing kind) r (lawful_every kind x e) (closer_stops kind) in
-    then_some (λ bs. closed kind (front (term_byte kind) bs) bs) inner
+    let front-is : take_while (term_byte kind) inner ≡ x = run_whole (term_byte kind) x (mark.closing kind ∷ r) (lawful_every kind x e) (run_none (term_byte kind) (mark.closing kind) r (closer_stops kind)) in
+    then_some (λ bs. closed kind (take_while (term_byte kind) bs) bs) inner
     (ap (behind (mark.opening kind ∷ [])) (ap (λ y. mark.opening kind ∷ y) (append_assoc x (mark.closing kind ∷ []) r)) ∙ behind_text (mark.opening kind ∷ []) inner)
     ∙ ap (λ y. closed kind y inner) front-is
     ∙ ap (λ t. cond t (and_then (behind (mark.closing kind ∷ []) (drop (length x) inner)) (λ q. Some (record { bytes = x; rest = q }))) None) e
@@ -173,11 +159,11 @@ triple_is t e f = ap₂ (λ k m. whole k m) (sym e) (sym f)
 
 spelled_back : (t : Triple) → lawful_triple t ≡ true → statement (spelled t) ≡ Some t
 spelled_back t e =
-    let front = and_left (lawful_iri t.subject && lawful_iri t.predicate) (lawful_bytes t.object.kind t.object.bytes) e in
-    let s = iri_is t.subject.kind t.subject.bytes (and_left (lawful_iri t.subject) (lawful_iri t.predicate) front) in
-    let p = iri_is t.predicate.kind t.predicate.bytes (and_right (lawful_iri t.subject) (lawful_iri t.predicate) front) in
-    let o = and_right (lawful_iri t.subject && lawful_iri t.predicate) (lawful_bytes t.object.kind t.object.bytes) e in
-    subst (λ u. statement (spelled u) ≡ Some u) (triple_is t s.0 p.0) (spelled_statement t.subject.bytes t.predicate.bytes t.object.kind t.object.bytes s.1 p.1 o)
+    let all = and_parts (lawful_iri t.subject && lawful_iri t.predicate) (lawful_bytes t.object.kind t.object.bytes) e in
+    let iris = and_parts (lawful_iri t.subject) (lawful_iri t.predicate) all.0 in
+    let s = iri_is t.subject.kind t.subject.bytes iris.0 in
+    let p = iri_is t.predicate.kind t.predicate.bytes iris.1 in
+    subst (λ u. statement (spelled u) ≡ Some u) (triple_is t s.0 p.0) (spelled_statement t.subject.bytes t.predicate.bytes t.object.kind t.object.bytes s.1 p.1 all.1)
 
 -- a statement begins with <, so it is no opening
 spelled_no_opening : (t : Triple) → lawful_triple t ≡ true → opening (spelled t) ≡ None

@@ -1,5 +1,5 @@
 -- What it takes for a line to be read as a statement: its parts, from the front on.
-use Rattle.std.specs.Prelude.{◌≡◌, ℕ, Bool, true, false, cond, ◌&&◌, List, [], ◌∷◌, length, drop, Some, None, codes, Option, refl}
+use Rattle.std.specs.Prelude.{◌≡◌, ℕ, Bool, true, false, cond, ◌&&◌, List, [], ◌∷◌, length, take_while, drop, Some, None, codes, Option, refl}
 use Rattle.std.proofs.Common.{sym, ap, ◌∙◌, arith}
 use Rattle.terms.specs.Lawful.{is_iri, lawful_bytes}
 use Rattle.terms.specs.Marks as mark
@@ -8,7 +8,7 @@ use Rattle.terms.specs.declared.kind.Kind.TheVariants.{Iri}
 use Rattle.web.specs.Laws.{lawful_triple}
 use Rattle.web.specs.Meaning.{Triple}
 use Rattle.lines.specs.Readings.{and_then, behind, Cut, closed, marked, named, object_kind, ended, triple, statement}
-use Rattle.lines.specs.Runs.{front, term_byte}
+use Rattle.lines.specs.Runs.{term_byte}
 
 pub some_same : {A : Type 0} {x y : A} → ◌≡◌ {A = Option A} (Some x) (Some y) → x ≡ y
 some_same e = cc
@@ -21,7 +21,7 @@ then_inv (Some x) f y e = (x, refl, e)
 pub record Marked (kind : Kind) (line : List ℕ) (c : Cut) : Type 0 where
   pub inner : List ℕ
   pub opened : behind (mark.opening kind ∷ []) line ≡ Some inner
-  pub run : c.bytes ≡ front (term_byte kind) inner
+  pub run : c.bytes ≡ take_while (term_byte kind) inner
   pub lawful : lawful_bytes kind c.bytes ≡ true
   pub closes : behind (mark.closing kind ∷ []) (drop (length c.bytes) inner) ≡ Some c.rest
 
@@ -39,8 +39,8 @@ closed_inv kind x bs c e = go (lawful_bytes kind x) e
 
 pub marked_inv : (kind : Kind) (line : List ℕ) (c : Cut) → marked kind line ≡ Some c → Marked kind line c
 marked_inv kind line c e =
-    let i = then_inv (behind (mark.opening kind ∷ []) line) (λ bs. closed kind (front (term_byte kind) bs) bs) c e in
-    let x = front (term_byte kind) i.0 in
+    let i = then_inv (behind (mark.opening kind ∷ []) line) (λ bs. closed kind (take_while (term_byte kind) bs) bs) c e in
+    let x = take_while (term_byte kind) i.0 in
     let j = closed_inv kind x i.0 c i.2 in
     record {
       inner = i.0;

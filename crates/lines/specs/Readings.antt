@@ -1,13 +1,14 @@
 -- What a line says: it opens a page, `@page <IRI>`, or states a triple, `<s> <p> o .`, with single spaces. Any other line with a byte in it is
 -- unreadable. Here a line is read from its front; the laws say the same by how a line is spelled.
-use Rattle.std.specs.Prelude.{ℕ, Bool, false, cond, List, [], ◌∷◌, length, drop, Some, None, codes, Option, ◌==◌}
+use Rattle.std.specs.Prelude.{ℕ, cond, List, [], ◌∷◌, length, take_while, drop, Some, None, codes, Option, ◌==◌}
+use Rattle.terms.specs.Bytes.{leads}
 use Rattle.terms.specs.Lawful.{lawful_bytes}
 use Rattle.terms.specs.Marks as mark
 use Rattle.terms.specs.Terms.{Term}
 use Rattle.terms.specs.declared.kind.Kind.{Kind}
 use Rattle.terms.specs.declared.kind.Kind.TheVariants.{Iri, Literal}
 use Rattle.web.specs.Meaning.{Triple}
-use Rattle.lines.specs.Runs.{front, term_byte}
+use Rattle.lines.specs.Runs.{term_byte}
 
 pub data Said : Type 0 where
   nothing : Said
@@ -20,11 +21,6 @@ pub data Said : Type 0 where
 abbrev pub and_then : {A B : Type 0} → Option A → (A → Option B) → Option B
 and_then None f = None
 and_then (Some x) f = f x
-
--- the first byte is c
-abbrev pub leads : ℕ → List ℕ → Bool
-leads c [] = false
-leads c (b ∷ bs) = b == c
 
 -- what stands behind a text
 abbrev pub behind : List ℕ → List ℕ → Option (List ℕ)
@@ -42,7 +38,7 @@ abbrev pub closed : Kind → List ℕ → List ℕ → Option Cut
 closed kind x bs = cond (lawful_bytes kind x) (and_then (behind (mark.closing kind ∷ []) (drop (length x) bs)) (λ r. Some (record { bytes = x; rest = r }))) None
 
 abbrev pub marked : Kind → List ℕ → Option Cut
-marked kind line = and_then (behind (mark.opening kind ∷ []) line) (λ bs. closed kind (front (term_byte kind) bs) bs)
+marked kind line = and_then (behind (mark.opening kind ∷ []) line) (λ bs. closed kind (take_while (term_byte kind) bs) bs)
 
 -- an IRI and a space
 abbrev pub named : List ℕ → Option Cut

@@ -1,13 +1,8 @@
--- Runs of bytes, as long as they can be.
-use Rattle.std.specs.Prelude.{ℕ, Bool, cond, not, List, [], ◌∷◌, ◌==◌}
+-- The tests that runs of bytes pass.
+use Rattle.std.specs.Prelude.{ℕ, Bool, not, ◌==◌}
 use Rattle.terms.specs.Bytes.{iri_byte, literal_byte}
 use Rattle.terms.specs.declared.kind.Kind.{Kind}
 use Rattle.terms.specs.declared.kind.Kind.TheVariants.{Iri, Literal}
-
--- the longest front whose bytes all pass a test
-abbrev pub front : (ℕ → Bool) → List ℕ → List ℕ
-front p [] = []
-front p (b ∷ bs) = cond (p b) (b ∷ front p bs) []
 
 abbrev pub term_byte : Kind → ℕ → Bool
 term_byte Iri = iri_byte

@@ -1,8 +1,8 @@
 // The cursor over the lines of a file.
-ghost use Rattle.std.specs.Prelude.{◌≡◌, ◌+◌, ◌^◌, ◌<◌, ◌≤◌, length};
+ghost use Rattle.std.specs.Prelude.{◌≡◌, ◌+◌, ◌^◌, ◌<◌, ◌≤◌, length, take_while};
 ghost use Rattle.std.specs.Iterator.{at_most};
-ghost use Rattle.terms.specs.Lawful.{every};
-ghost use Rattle.lines.specs.Runs.{differs, front};
+ghost use Rattle.std.specs.List.{list_all};
+ghost use Rattle.lines.specs.Runs.{differs};
 
 use crate::runs::run_before;
 
@@ -24,7 +24,7 @@ pub struct Lines<'a> {
 
 // None of these bytes ends a line. They are all looked at, with no branch, so that many can be compared at once.
 fn unbroken(bytes: &[u8]) -> bool
-    ensures { result ≡ every (differs 10) bytes.now }
+    ensures { result ≡ list_all (differs 10) bytes.now }
 {
     let mut whole = true;
     for b in bytes {
@@ -35,7 +35,7 @@ fn unbroken(bytes: &[u8]) -> bool
 
 // How many bytes the first line has: by sixteens while none ends it, and then one by one.
 fn line_length(bytes: &[u8]) -> usize
-    ensures longest { result ≡ length (front (differs 10) bytes.now) }
+    ensures longest { result ≡ length (take_while (differs 10) bytes.now) }
     ensures within { result ≤ length bytes.now }
 {
     let mut start = 0;

@@ -5,8 +5,10 @@ use Rattle.std.proofs.lemmas.Slice.Eq.{bytes_eq-Decides}
 use Rattle.std.proofs.lemmas.Bool.{true≢false}
 use Rattle.std.specs.Str.{bytes_eq}
 use Rattle.terms.specs.Lawful.{is_iri}
+use Rattle.terms.proofs.Runs.{run_more}
 use Rattle.lines.specs.Lines.{lines, onto}
 use Rattle.lines.specs.Readings.{nothing, opens, states, opening, statement, says, or_opens, or_states}
+use Rattle.lines.specs.Runs.{differs}
 use Rattle.lines.proofs.Cutting.{lines_nil, lines_cons, lines_first}
 use Rattle.lines.proofs.Sayings.{says_nil, says_cons, says_opening}
 use Rattle.web.specs.Meaning.{Triple, Looked, found, absent}
@@ -21,8 +23,8 @@ pub cut_before_hash : CutBeforeHash
 cut_before_hash [] after h = (refl, refl)
 cut_before_hash (b ∷ before) after h =
     let r = cut_before_hash before after h.1 in (
-      ap (λ t. cond (not t) (b ∷ address before) []) h.0 ∙ ap (λ y. b ∷ y) r.0,
-      ap (λ t. cond (not t) (b ∷ address (before ++ (35 ∷ after))) []) h.0 ∙ ap (λ y. b ∷ y) r.1,
+      run_more (differs 35) b before (ap not h.0) ∙ ap (λ y. b ∷ y) r.0,
+      run_more (differs 35) b (before ++ (35 ∷ after)) (ap not h.0) ∙ ap (λ y. b ∷ y) r.1,
     )
 
 -- ---- a line opens a page or none

@@ -1,5 +1,5 @@
 -- What a page file means at each IRI. A line belongs to the page that the last opening up to it opened, so an opening belongs to its own page. Lines are numbered from 1.
-use Rattle.std.specs.Prelude.{ℕ, ◌+◌, Bool, false, cond, List, [], ◌∷◌, length, Some, None, Option, nat_le}
+use Rattle.std.specs.Prelude.{ℕ, ◌+◌, Bool, false, cond, List, [], ◌∷◌, length, take_while, Some, None, Option, nat_le}
 use Rattle.std.specs.Str.{bytes_eq}
 use Rattle.terms.specs.Lawful.{is_iri}
 use Rattle.web.specs.Meaning.{Triple, Looked, found, absent, broken, Mark}
@@ -7,7 +7,7 @@ use Rattle.pages.specs.declared.cause.Fault.{Fault}
 use Rattle.pages.specs.declared.cause.Fault.TheVariants.{Unreadable, OpenedAgain}
 use Rattle.pages.specs.declared.cause.PageCause.{PageCause}
 use Rattle.lines.specs.Lines.{lines}
-use Rattle.lines.specs.Runs.{front, differs}
+use Rattle.lines.specs.Runs.{differs}
 use Rattle.lines.specs.Readings.{Said, nothing, opens, states, unreadable, says}
 
 -- ---- causes
@@ -91,7 +91,7 @@ page_of (l ∷ ls) = judged_by (first_fault ls) (stated ls)
 
 -- an IRI leads to the page that is named by what stands before its first `#`
 abbrev pub address : List ℕ → List ℕ
-address iri = front (differs 35) iri
+address iri = take_while (differs 35) iri
 
 abbrev pub page_at : List ℕ → List ℕ → Looked PageCause
 page_at file a = page_of (lines_on a 0 None (lines file))

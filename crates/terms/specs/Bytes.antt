@@ -1,12 +1,17 @@
 -- Which bytes may stand in a term, in a word, and between tokens. A byte is a number below 256.
 use Rattle.std.specs.Prelude.{ℕ, Bool, false, not, ◌&&◌, ◌||◌, List, [], ◌∷◌, ◌==◌, nat_le}
+use Rattle.std.specs.List.{list_any}
 
 abbrev pub between : ℕ → ℕ → ℕ → Bool
 between low high b = nat_le low b && nat_le b high
 
 abbrev pub one_of : List ℕ → ℕ → Bool
-one_of [] b = false
-one_of (x ∷ xs) b = b == x || one_of xs b
+one_of cs b = list_any (λ c. b == c) cs
+
+-- the first byte is c
+abbrev pub leads : ℕ → List ℕ → Bool
+leads c [] = false
+leads c (b ∷ bs) = b == c
 
 -- space, tab, LF, CR
 abbrev pub blank_byte : ℕ → Bool

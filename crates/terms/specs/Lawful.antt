@@ -6,20 +6,16 @@ use Rattle.terms.specs.Terms.{Term}
 use Rattle.terms.specs.declared.kind.Kind.{Kind}
 use Rattle.terms.specs.declared.kind.Kind.TheVariants.{Iri, Literal}
 
--- every byte passes a test
-abbrev pub every : (ℕ → Bool) → List ℕ → Bool
-every p bs = list_all p bs
-
 -- an IRI has 1 to 128 bytes, a literal 0 to 128
 abbrev pub fitting : Kind → ℕ → Bool
 fitting Iri n = nat_le 1 n && nat_le n 128
 fitting Literal n = nat_le n 128
 
 abbrev pub is_iri : List ℕ → Bool
-is_iri x = fitting Iri (length x) && every iri_byte x
+is_iri x = fitting Iri (length x) && list_all iri_byte x
 
 abbrev pub is_literal : List ℕ → Bool
-is_literal x = fitting Literal (length x) && every literal_byte x
+is_literal x = fitting Literal (length x) && list_all literal_byte x
 
 abbrev pub lawful_bytes : Kind → List ℕ → Bool
 lawful_bytes Iri x = is_iri x

@@ -1,14 +1,14 @@
 -- Tokens of a text from an offset on, one token at a time.
-use Rattle.std.proofs.Common.{◌≡◌, ℕ, zero, suc, ◌+◌, ◌-◌, ◌<◌, ◌≤◌, Bool, true, false, cond, List, [], ◌∷◌, length, get_or, drop, sym, refl, ap, ◌∙◌, ap₂, add-zero, arith}
+use Rattle.std.proofs.Common.{◌≡◌, ℕ, zero, suc, ◌+◌, ◌-◌, ◌<◌, ◌≤◌, Bool, true, false, cond, List, [], ◌∷◌, length, get_or, take_while, drop, sym, refl, ap, ◌∙◌, ap₂, add-zero, arith}
 use Rattle.std.proofs.lemmas.List.{drop_all, drop_more, drop-drop, get_or-drop, length-drop}
 use Rattle.std.proofs.lemmas.Bool.{true≢false}
 use Rattle.terms.specs.Bytes.{blank_byte}
+use Rattle.terms.proofs.Runs.{run_fits, run_ends, run_more, run_none}
 use Rattle.tokens.specs.declared.token.Token.TheVariants.{End}
 use Rattle.tokens.specs.declared.token.Lexeme.{Lexeme}
 use Rattle.tokens.specs.Words.{Word, end}
-use Rattle.tokens.specs.Lexed.{front, put, cut, lexeme, tokens_from, First}
+use Rattle.tokens.specs.Lexed.{Spot, put, cut, lexeme, tokens_from, First}
 use Rattle.tokens.specs.Pieces.{Reads}
-use Rattle.tokens.proofs.Lists.{front_fits, front_ends}
 
 pub cut_blank : (i b : ℕ) (bs : List ℕ) → blank_byte b ≡ true → cut i zero (b ∷ bs) ≡ cut (i + 1) zero bs
 unfolding cut
@@ -32,32 +32,35 @@ cut_past i (suc n) (b ∷ bs) h =
     cut_past (i + 1) n bs (omega arith) ∙ ap (λ j. cut j zero (drop n bs)) e
 
 -- and so are blanks
-pub cut_blanks : (i : ℕ) (bs : List ℕ) → cut i zero bs ≡ cut (i + length (front blank_byte bs)) zero (drop (length (front blank_byte bs)) bs)
+pub cut_blanks : (i : ℕ) (bs : List ℕ) → cut i zero bs ≡ cut (i + length (take_while blank_byte bs)) zero (drop (length (take_while blank_byte bs)) bs)
 cut_blanks i [] = ap (λ j. cut j zero []) (sym (add-zero i))
-cut_blanks i (b ∷ bs) = go (blank_byte b) (cut_blanks (i + 1) bs) refl
+cut_blanks i (b ∷ bs) = go (blank_byte b) refl (cut_blanks (i + 1) bs)
   where
-    go : (t : Bool) → cut (i + 1) zero bs ≡ cut (i + 1 + length (front blank_byte bs)) zero (drop (length (front blank_byte bs)) bs) → blank_byte b ≡ t → cut i zero (b ∷ bs) ≡ cut (i + length (cond t (b ∷ front blank_byte bs) [])) zero (drop (length (cond t (b ∷ front blank_byte bs) [])) (b ∷ bs))
-    go true h e =
-        let k : i + 1 + length (front blank_byte bs) ≡ i + suc (length (front blank_byte bs)) = omega arith in
-        cut_blank i b bs e ∙ h ∙ ap (λ j. cut j zero (drop (length (front blank_byte bs)) bs)) k
-    go false h e = ap (λ j. cut j zero (b ∷ bs)) (sym (add-zero i))
+    to : List ℕ → List Spot
+    to x = cut (i + length x) zero (drop (length x) (b ∷ bs))
+
+    go : (t : Bool) → blank_byte b ≡ t → cut (i + 1) zero bs ≡ cut (i + 1 + length (take_while blank_byte bs)) zero (drop (length (take_while blank_byte bs)) bs) → cut i zero (b ∷ bs) ≡ to (take_while blank_byte (b ∷ bs))
+    go true e h =
+        let k : i + 1 + length (take_while blank_byte bs) ≡ i + suc (length (take_while blank_byte bs)) = omega arith in
+        cut_blank i b bs e ∙ h ∙ ap (λ j. cut j zero (drop (length (take_while blank_byte bs)) bs)) k ∙ sym (ap to (run_more blank_byte b bs e))
+    go false e h = ap (λ j. cut j zero (b ∷ bs)) (sym (add-zero i)) ∙ sym (ap to (run_none blank_byte b bs e))
 
 -- after the blanks
-from_blanks : (text : List ℕ) (at s : ℕ) → s ≡ at + length (front blank_byte (drop at text)) → tokens_from text at ≡ cut s zero (drop s text)
+from_blanks : (text : List ℕ) (at s : ℕ) → s ≡ at + length (take_while blank_byte (drop at text)) → tokens_from text at ≡ cut s zero (drop s text)
 from_blanks text at s e =
-    cut_blanks at (drop at text) ∙ ap (cut (at + length (front blank_byte (drop at text))) zero) (drop-drop (length (front blank_byte (drop at text))) at text)
+    cut_blanks at (drop at text) ∙ ap (cut (at + length (take_while blank_byte (drop at text))) zero) (drop-drop (length (take_while blank_byte (drop at text))) at text)
     ∙ ap (λ j. cut j zero (drop j text)) (sym e)
 
 -- the blanks end within the text
-blanks_within : (text : List ℕ) (at s : ℕ) → s ≡ at + length (front blank_byte (drop at text)) → at ≤ length text → s ≤ length text
-blanks_within text at s e h = omega (arith, front_fits blank_byte (drop at text), length-drop at text)
+blanks_within : (text : List ℕ) (at s : ℕ) → s ≡ at + length (take_while blank_byte (drop at text)) → at ≤ length text → s ≤ length text
+blanks_within text at s e h = omega (arith, run_fits blank_byte (drop at text), length-drop at text)
 
-no_blank : (text : List ℕ) (at s : ℕ) → s ≡ at + length (front blank_byte (drop at text)) → s < length text → blank_byte (get_or text s 0) ≡ false
+no_blank : (text : List ℕ) (at s : ℕ) → s ≡ at + length (take_while blank_byte (drop at text)) → s < length text → blank_byte (get_or text s 0) ≡ false
 no_blank text at s e h =
-    let n = length (front blank_byte (drop at text)) in
-    ap (λ j. blank_byte (get_or text j 0)) e ∙ ap blank_byte (sym (get_or-drop at text n 0)) ∙ front_ends blank_byte (drop at text) (omega (arith, length-drop at text))
+    let n = length (take_while blank_byte (drop at text)) in
+    ap (λ j. blank_byte (get_or text j 0)) e ∙ ap blank_byte (sym (get_or-drop at text n 0)) ∙ run_ends blank_byte (drop at text) (omega (arith, length-drop at text))
 
-pub first_end : (text : List ℕ) (at s : ℕ) → s ≡ at + length (front blank_byte (drop at text)) → length text ≤ s → First text at record { token = End; start = s; end = s }
+pub first_end : (text : List ℕ) (at s : ℕ) → s ≡ at + length (take_while blank_byte (drop at text)) → length text ≤ s → First text at record { token = End; start = s; end = s }
 first_end text at s e h = record {
   stream = from_blanks text at s e ∙ ap (cut s zero) (drop_all s text h) ∙ cut_end s;
   forward = omega arith;
@@ -66,7 +69,7 @@ first_end text at s e h = record {
   last = omega arith;
 }
 
-pub first_token : (text : List ℕ) (at s : ℕ) (l : Lexeme) → s ≡ at + length (front blank_byte (drop at text)) → s < length text → Reads text s (lexeme (get_or text s 0) (drop (s + 1) text)) l → First text at l
+pub first_token : (text : List ℕ) (at s : ℕ) (l : Lexeme) → s ≡ at + length (take_while blank_byte (drop at text)) → s < length text → Reads text s (lexeme (get_or text s 0) (drop (s + 1) text)) l → First text at l
 first_token text at s l e h r = record {
   stream =
       from_blanks text at s e ∙ ap (cut s zero) (drop_more text s 0 h) ∙ cut_token s (get_or text s 0) (drop (s + 1) text) (no_blank text at s e h)

@@ -1,11 +1,12 @@
 -- The tokens that are cut from bytes lay them out, and nothing else does.
 use Rattle.std.proofs.Common.{◌≡◌, ℕ, zero, suc, ◌+◌, ◌-◌, ◌≤◌, true, false, cond, ◌⊎◌, List, [], ◌∷◌, ◌++◌, length, take, drop, sym, refl, ap, ◌∙◌, subst, ap₂, inl, inr, add-zero, arith}
+use Rattle.std.specs.List.{list_all}
 use Rattle.std.proofs.lemmas.List.{take-append-drop, length-take-le, length-append, drop_at}
-use Rattle.std.proofs.lemmas.Bool.{true≢false, cond_both}
+use Rattle.std.proofs.lemmas.Bool.{true≢false, and_from, and_parts, cond_both}
 use Rattle.terms.specs.Bytes.{blank_byte}
 use Rattle.tokens.specs.Words.{Word, wrong, end}
 use Rattle.tokens.specs.Lexed.{Spot, final, put, cut, lexeme}
-use Rattle.tokens.specs.Laid.{Each, Spells, Stray, Laid, EveryTextIsLaid, LaidOnce}
+use Rattle.tokens.specs.Laid.{Spells, Stray, Laid, EveryTextIsLaid, LaidOnce}
 use Rattle.tokens.proofs.Cuts.{cut_blank, cut_token, cut_end, cut_past}
 use Rattle.tokens.proofs.Spelled.{Taken, spelled, Read, read}
 
@@ -15,11 +16,12 @@ put_goes i x v e = ap (λ t. record { at = i; word = x } ∷ cond t [] v) e
 
 -- ---- what is laid out is cut
 
-cut_gap : (gap tail : List ℕ) (i : ℕ) → Each blank_byte gap → cut i zero (gap ++ tail) ≡ cut (i + length gap) zero tail
+cut_gap : (gap tail : List ℕ) (i : ℕ) → list_all blank_byte gap ≡ true → cut i zero (gap ++ tail) ≡ cut (i + length gap) zero tail
 cut_gap [] tail i h = ap (λ j. cut j zero tail) (sym (add-zero i))
 cut_gap (b ∷ gap) tail i h =
     let e : i + 1 + length gap ≡ i + suc (length gap) = omega arith in
-    cut_blank i b (gap ++ tail) h.0 ∙ cut_gap gap tail (i + 1) h.1 ∙ ap (λ j. cut j zero tail) e
+    let two = and_parts _ _ h in
+    cut_blank i b (gap ++ tail) two.0 ∙ cut_gap gap tail (i + 1) two.1 ∙ ap (λ j. cut j zero tail) e
 
 -- where the word x is spelled, it is cut
 cut_spelled : (i : ℕ) (x : Word) (body rest : List ℕ) → Taken x body rest → cut i zero (body ++ rest) ≡ record { at = i; word = x } ∷ cut (i + length body) zero rest
@@ -78,7 +80,7 @@ laid_once i bs v u h g = laid_cut v i bs h ∙ sym (laid_cut u i bs g)
 -- one blank more in front
 laid_blank : (v : List Spot) (i b : ℕ) (bs : List ℕ) → blank_byte b ≡ true → Laid (i + 1) bs v → Laid i (b ∷ bs) v
 laid_blank [] i b bs e h = absurd h
-laid_blank (s ∷ v) i b bs e h = (b ∷ h.0, h.1, ap (λ r. b ∷ r) h.2, (e, h.3), omega (arith, h.4), h.5)
+laid_blank (s ∷ v) i b bs e h = (b ∷ h.0, h.1, ap (λ r. b ∷ r) h.2, and_from _ _ e h.3, omega (arith, h.4), h.5)
 
 -- where the piece is wrong, no word is spelled
 none_spelled : (b : ℕ) (bs : List ℕ) → (lexeme b bs).word ≡ wrong → (x : Word) (body rest : List ℕ) → b ∷ bs ≡ body ++ rest → Spells x body rest → ⊥
@@ -106,15 +108,15 @@ laid_token i b bs d after = go (read b bs)
     go : Read b bs (lexeme b bs) → Laid i (b ∷ bs) (put i x v)
     go (inl e) =
         subst (λ y. Laid i (b ∷ bs) (put i y v)) (sym e)
-        ([], b ∷ bs, refl, tt, sym (add-zero i), inr (inl (refl, (tt, d, none_spelled b bs e), refl)))
+        ([], b ∷ bs, refl, refl, sym (add-zero i), inr (inl (refl, (tt, d, none_spelled b bs e), refl)))
     go (inr s) =
         let t = spelled x (b ∷ take m bs) (drop m bs) s.spells in
         let k : i + 1 + m ≡ i + suc (length (take m bs)) = omega (arith, length-take-le m bs s.within) in
         subst (Laid i (b ∷ bs)) (sym (put_goes i x v t.goes))
-        ([], b ∷ bs, refl, tt, sym (add-zero i), inr (inr (b ∷ take m bs, drop m bs, ap (λ r. b ∷ r) (sym (take-append-drop m bs)), s.spells, subst (λ j. Laid j (drop m bs) v) k (after m s.within))))
+        ([], b ∷ bs, refl, refl, sym (add-zero i), inr (inr (b ∷ take m bs, drop m bs, ap (λ r. b ∷ r) (sym (take-append-drop m bs)), s.spells, subst (λ j. Laid j (drop m bs) v) k (after m s.within))))
 
 laid_end : (i : ℕ) → Laid i [] (put i end [])
-laid_end i = ([], [], refl, tt, sym (add-zero i), inl (refl, refl, refl))
+laid_end i = ([], [], refl, refl, sym (add-zero i), inl (refl, refl, refl))
 
 pub cut_laid : (bs : List ℕ) (i n : ℕ) → n ≤ length bs → Laid (i + n) (drop n bs) (cut i n bs)
 unfolding cut

@@ -1,5 +1,4 @@
 pub mod Lists
-pub mod Keywords
 pub mod Cuts
 pub mod Pieced
 pub mod Spelled

@@ -1,36 +1,32 @@
--- The piece at the front of some bytes is the word that is spelled there.
-use Rattle.std.proofs.Common.{◌≡◌, ℕ, suc, ◌+◌, ◌-◌, ◌<◌, ◌≤◌, Bool, true, false, cond, not, ◌&&◌, eqb, ◌⊎◌, List, [], ◌∷◌, ◌++◌, length, get_or, take, drop, codes, sym, refl, ap, ◌∙◌, subst, ap₂, inl, inr, add-one, arith}
+-- The piece at the take_while of some bytes is the word that is spelled there.
+use Rattle.std.proofs.Common.{◌≡◌, ℕ, suc, ◌+◌, ◌-◌, ◌<◌, ◌≤◌, Bool, true, false, cond, not, ◌&&◌, eqb, ◌⊎◌, List, [], ◌∷◌, ◌++◌, length, get_or, take, take_while, drop, codes, sym, refl, ap, ◌∙◌, subst, ap₂, inl, inr, add-one, arith}
+use Rattle.std.specs.List.{list_all}
 use Rattle.std.proofs.lemmas.List.{append_assoc, length_push, take_more, drop_at}
 use Rattle.std.proofs.lemmas.Bool.{cond-true, cond-false, cond_both, and_from, and_parts, not-true, not_from_false, eqb-true, eq-eqb, true≢false}
-use Rattle.terms.specs.Bytes.{blank_byte, iri_byte, literal_byte, word_byte}
+use Rattle.std.proofs.lemmas.Slice.Eq.{bytes_eq-Decides}
+use Rattle.terms.specs.Bytes.{blank_byte, iri_byte, leads, literal_byte, word_byte}
+use Rattle.terms.proofs.Runs.{run_fits, run_take, run_all, run_more, run_none, run_whole}
 use Rattle.tokens.specs.Words.{Word, iri, literal, name, open_brace, close_brace, open_paren, close_paren, dot, bar, slash, caret, star, bang, optional, union, wrong, end}
-use Rattle.tokens.specs.Lexed.{Piece, piece, stray, front, leads, is_nil, same_bytes, final, iri_piece, literal_piece, name_piece, keyword, word_piece, signs, lexeme}
-use Rattle.tokens.specs.Laid.{Filled, Each, Stops, Spells}
-use Rattle.tokens.proofs.Lists.{front_fits, front_take, leads_here, leads_within}
-use Rattle.tokens.proofs.Keywords.{same_decides}
+use Rattle.tokens.specs.Lexed.{Piece, piece, stray, is_nil, same_bytes, final, iri_piece, literal_piece, name_piece, keyword, word_piece, signs, lexeme}
+use Rattle.tokens.specs.Laid.{Filled, Stops, Spells}
+use Rattle.tokens.proofs.Lists.{leads_here, leads_within}
 
 -- ---- runs
 
-pub front_each : (p : ℕ → Bool) (bs : List ℕ) → Each p (front p bs)
-front_each p [] = tt
-front_each p (b ∷ bs) = go (p b) refl (front_each p bs)
+pub run_stops : (p : ℕ → Bool) (bs : List ℕ) → Stops p (drop (length (take_while p bs)) bs)
+run_stops p [] = tt
+run_stops p (b ∷ bs) = go (p b) refl (run_stops p bs)
   where
-    go : (t : Bool) → p b ≡ t → Each p (front p bs) → Each p (cond t (b ∷ front p bs) [])
-    go true e h = (e, h)
-    go false e h = tt
+    after : List ℕ → Type 0
+    after x = Stops p (drop (length x) (b ∷ bs))
 
-pub front_then : (p : ℕ → Bool) (bs : List ℕ) → Stops p (drop (length (front p bs)) bs)
-front_then p [] = tt
-front_then p (b ∷ bs) = go (p b) refl (front_then p bs)
-  where
-    go : (t : Bool) → p b ≡ t → Stops p (drop (length (front p bs)) bs) → Stops p (drop (length (cond t (b ∷ front p bs) [])) (b ∷ bs))
-    go true e h = h
-    go false e h = e
+    go : (t : Bool) → p b ≡ t → Stops p (drop (length (take_while p bs)) bs) → after (take_while p (b ∷ bs))
+    go true e h = subst after (sym (run_more p b bs e)) h
+    go false e h = subst after (sym (run_none p b bs e)) e
 
-pub front_whole : (p : ℕ → Bool) (x rest : List ℕ) → Each p x → Stops p rest → front p (x ++ rest) ≡ x
-front_whole p [] [] h g = refl
-front_whole p [] (b ∷ rest) h g = ap (λ t. cond t (b ∷ front p rest) []) g
-front_whole p (b ∷ x) rest h g = ap (λ t. cond t (b ∷ front p (x ++ rest)) []) h.0 ∙ ap (λ y. b ∷ y) (front_whole p x rest h.1 g)
+run_before_stop : (p : ℕ → Bool) (x rest : List ℕ) → list_all p x ≡ true → Stops p rest → take_while p (x ++ rest) ≡ x
+run_before_stop p x [] h g = run_whole p x [] h refl
+run_before_stop p x (b ∷ rest) h g = run_whole p x (b ∷ rest) h (run_none p b rest g)
 
 -- ---- a word that is spelled is read
 
@@ -51,23 +47,23 @@ filled_not_nil (b ∷ x) h = refl
 marked : (x : List ℕ) (c : ℕ) (rest : List ℕ) → leads c (drop (length x) (x ++ (c ∷ rest))) ≡ true
 marked x c rest = ap (leads c) (drop_at x (c ∷ rest) (length x) refl) ∙ eq-eqb c c refl
 
-take_iri : (x rest : List ℕ) → Filled x → Each iri_byte x → iri_piece (x ++ (62 ∷ rest)) ≡ piece (iri x) (length x + 2)
+take_iri : (x rest : List ℕ) → Filled x → list_all iri_byte x ≡ true → iri_piece (x ++ (62 ∷ rest)) ≡ piece (iri x) (length x + 2)
 take_iri x rest f h =
-    ap (λ y. cond (not (is_nil y) && leads 62 (drop (length y) (x ++ (62 ∷ rest)))) (piece (iri y) (length y + 2)) stray) (front_whole iri_byte x (62 ∷ rest) h refl)
+    ap (λ y. cond (not (is_nil y) && leads 62 (drop (length y) (x ++ (62 ∷ rest)))) (piece (iri y) (length y + 2)) stray) (run_before_stop iri_byte x (62 ∷ rest) h refl)
     ∙ cond-true _ _ _ (and_from _ _ (not_from_false _ (filled_not_nil x f)) (marked x 62 rest))
 
-take_literal : (x rest : List ℕ) → Each literal_byte x → literal_piece (x ++ (34 ∷ rest)) ≡ piece (literal x) (length x + 2)
+take_literal : (x rest : List ℕ) → list_all literal_byte x ≡ true → literal_piece (x ++ (34 ∷ rest)) ≡ piece (literal x) (length x + 2)
 take_literal x rest h =
-    ap (λ y. cond (leads 34 (drop (length y) (x ++ (34 ∷ rest)))) (piece (literal y) (length y + 2)) stray) (front_whole literal_byte x (34 ∷ rest) h refl)
+    ap (λ y. cond (leads 34 (drop (length y) (x ++ (34 ∷ rest)))) (piece (literal y) (length y + 2)) stray) (run_before_stop literal_byte x (34 ∷ rest) h refl)
     ∙ cond-true _ _ _ (marked x 34 rest)
 
-take_name : (x rest : List ℕ) → Filled x → Each word_byte x → Stops word_byte rest → name_piece (x ++ rest) ≡ piece (name x) (length x + 1)
+take_name : (x rest : List ℕ) → Filled x → list_all word_byte x ≡ true → Stops word_byte rest → name_piece (x ++ rest) ≡ piece (name x) (length x + 1)
 take_name x rest f h g =
-    ap (λ y. cond (is_nil y) stray (piece (name y) (length y + 1))) (front_whole word_byte x rest h g)
+    ap (λ y. cond (is_nil y) stray (piece (name y) (length y + 1))) (run_before_stop word_byte x rest h g)
     ∙ cond-false _ _ _ (filled_not_nil x f)
 
-take_word : (x rest : List ℕ) → Each word_byte x → Stops word_byte rest → word_piece (x ++ rest) ≡ piece (keyword x) (length x)
-take_word x rest h g = ap (λ y. piece (keyword y) (length y)) (front_whole word_byte x rest h g)
+take_word : (x rest : List ℕ) → list_all word_byte x ≡ true → Stops word_byte rest → word_piece (x ++ rest) ≡ piece (keyword x) (length x)
+take_word x rest h g = ap (λ y. piece (keyword y) (length y)) (run_before_stop word_byte x rest h g)
 
 -- the rest after a last mark, and the bytes of both marks
 after_mark : (x : List ℕ) (c : ℕ) (rest : List ℕ) → (x ++ (c ∷ [])) ++ rest ≡ x ++ (c ∷ rest)
@@ -109,7 +105,7 @@ spelled optional body rest h = record {
   more = codes "PTIONAL";
   body_is = h.0;
   dark = refl;
-  reads = take_word (codes "OPTIONAL") rest (refl, (refl, (refl, (refl, (refl, (refl, (refl, (refl, tt)))))))) h.1;
+  reads = take_word (codes "OPTIONAL") rest refl h.1;
   goes = refl;
 }
 spelled union body rest h = record {
@@ -117,7 +113,7 @@ spelled union body rest h = record {
   more = codes "NION";
   body_is = h.0;
   dark = refl;
-  reads = take_word (codes "UNION") rest (refl, (refl, (refl, (refl, (refl, tt))))) h.1;
+  reads = take_word (codes "UNION") rest refl h.1;
   goes = refl;
 }
 spelled open_brace body rest h = sign open_brace 123 body rest h refl refl refl
@@ -151,11 +147,11 @@ by_size b bs x n size e h s =
     inr record { some = omega arith; within = omega arith; spells = subst (λ m. Spells x (b ∷ take m bs) (drop m bs)) k s }
 
 -- a run and the mark after it
-take_marked : (p : ℕ → Bool) (c : ℕ) (bs : List ℕ) → leads c (drop (length (front p bs)) bs) ≡ true → take (length (front p bs) + 1) bs ≡ front p bs ++ (c ∷ [])
+take_marked : (p : ℕ → Bool) (c : ℕ) (bs : List ℕ) → leads c (drop (length (take_while p bs)) bs) ≡ true → take (length (take_while p bs) + 1) bs ≡ take_while p bs ++ (c ∷ [])
 take_marked p c bs e =
-    let n = length (front p bs) in
+    let n = length (take_while p bs) in
     let h : n < length bs = leads_within c bs n (sym e) in
-    take_more bs n 0 h ∙ ap₂ (λ x b. x ++ (b ∷ [])) (front_take p bs) (eqb-true (get_or bs n 0) c (leads_here c bs n h ∙ e))
+    take_more bs n 0 h ∙ ap₂ (λ x b. x ++ (b ∷ [])) (run_take p bs) (eqb-true (get_or bs n 0) c (leads_here c bs n h ∙ e))
 
 nil_filled : (x : List ℕ) → is_nil x ≡ false → Filled x
 nil_filled [] e = absurd (true≢false e)
@@ -165,50 +161,50 @@ read_iri : (b : ℕ) (bs : List ℕ) → b ≡ 60 → Read b bs (iri_piece bs)
 read_iri b bs is = cond_both _ _ _ (Read b bs) closed (λ e. inl refl)
   where
     x : List ℕ
-    x = front iri_byte bs
+    x = take_while iri_byte bs
 
     closed : (not (is_nil x) && leads 62 (drop (length x) bs)) ≡ true → Read b bs (piece (iri x) (length x + 2))
     closed e =
         let two = and_parts _ _ e in
         by_size b bs (iri x) (length x + 1) (length x + 2) (omega arith) (omega (arith, leads_within 62 bs (length x) (sym two.1)))
-        (ap₂ (λ c y. c ∷ y) is (take_marked iri_byte 62 bs two.1), nil_filled x (not-true _ two.0), front_each iri_byte bs)
+        (ap₂ (λ c y. c ∷ y) is (take_marked iri_byte 62 bs two.1), nil_filled x (not-true _ two.0), run_all iri_byte bs)
 
 read_literal : (b : ℕ) (bs : List ℕ) → b ≡ 34 → Read b bs (literal_piece bs)
 read_literal b bs is = cond_both _ _ _ (Read b bs) closed (λ e. inl refl)
   where
     x : List ℕ
-    x = front literal_byte bs
+    x = take_while literal_byte bs
 
     closed : leads 34 (drop (length x) bs) ≡ true → Read b bs (piece (literal x) (length x + 2))
     closed e =
         by_size b bs (literal x) (length x + 1) (length x + 2) (omega arith) (omega (arith, leads_within 34 bs (length x) (sym e)))
-        (ap₂ (λ c y. c ∷ y) is (take_marked literal_byte 34 bs e), front_each literal_byte bs)
+        (ap₂ (λ c y. c ∷ y) is (take_marked literal_byte 34 bs e), run_all literal_byte bs)
 
 read_name : (b : ℕ) (bs : List ℕ) → b ≡ 63 → Read b bs (name_piece bs)
 read_name b bs is = cond_both _ _ _ (Read b bs) (λ e. inl refl) some
   where
     x : List ℕ
-    x = front word_byte bs
+    x = take_while word_byte bs
 
     some : is_nil x ≡ false → Read b bs (piece (name x) (length x + 1))
     some e =
-        by_size b bs (name x) (length x) (length x + 1) refl (front_fits word_byte bs)
-        (ap₂ (λ c y. c ∷ y) is (front_take word_byte bs), nil_filled x e, front_each word_byte bs, front_then word_byte bs)
+        by_size b bs (name x) (length x) (length x + 1) refl (run_fits word_byte bs)
+        (ap₂ (λ c y. c ∷ y) is (run_take word_byte bs), nil_filled x e, run_all word_byte bs, run_stops word_byte bs)
 
 read_word : (b : ℕ) (bs : List ℕ) → word_byte b ≡ true → Read b bs (word_piece (b ∷ bs))
 read_word b bs h =
-    subst (λ x. Read b bs (piece (keyword x) (length x))) (sym (ap (λ t. cond t (b ∷ y) []) h))
-    (go (same_bytes (b ∷ y) (codes "OPTIONAL")) (same_bytes (b ∷ y) (codes "UNION")) (same_decides (b ∷ y) (codes "OPTIONAL")).0 (same_decides (b ∷ y) (codes "UNION")).0)
+    subst (λ x. Read b bs (piece (keyword x) (length x))) (sym (run_more word_byte b bs h))
+    (go (same_bytes (b ∷ y) (codes "OPTIONAL")) (same_bytes (b ∷ y) (codes "UNION")) (bytes_eq-Decides (b ∷ y) (codes "OPTIONAL")).0 (bytes_eq-Decides (b ∷ y) (codes "UNION")).0)
   where
     y : List ℕ
-    y = front word_byte bs
+    y = take_while word_byte bs
 
     whole : (w : List ℕ) → b ∷ y ≡ w → (b ∷ take (length y) bs ≡ w) × Stops word_byte (drop (length y) bs)
-    whole w e = (ap (λ z. b ∷ z) (front_take word_byte bs) ∙ e, front_then word_byte bs)
+    whole w e = (ap (λ z. b ∷ z) (run_take word_byte bs) ∙ e, run_stops word_byte bs)
 
     go : (s t : Bool) → (s ≡ true → b ∷ y ≡ codes "OPTIONAL") → (t ≡ true → b ∷ y ≡ codes "UNION") → Read b bs (piece (cond s optional (cond t union wrong)) (suc (length y)))
-    go true t k m = by_size b bs optional (length y) _ (omega arith) (front_fits word_byte bs) (whole _ (k refl))
-    go false true k m = by_size b bs union (length y) _ (omega arith) (front_fits word_byte bs) (whole _ (m refl))
+    go true t k m = by_size b bs optional (length y) _ (omega arith) (run_fits word_byte bs) (whole _ (k refl))
+    go false true k m = by_size b bs union (length y) _ (omega arith) (run_fits word_byte bs) (whole _ (m refl))
     go false false k m = inl refl
 
 read_sign : (b : ℕ) (bs : List ℕ) → Read b bs (piece (signs b) 1)

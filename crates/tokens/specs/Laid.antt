@@ -1,5 +1,6 @@
 -- What it is for bytes to be tokens with blanks between them. A text has one such layout, which `tokens` finds.
 use Rattle.std.specs.Prelude.{◌≡◌, ℕ, ◌+◌, Bool, true, false, ◌⊎◌, List, [], ◌∷◌, ◌++◌, length, codes}
+use Rattle.std.specs.List.{list_all}
 use Rattle.terms.specs.Bytes.{blank_byte, iri_byte, literal_byte, word_byte}
 use Rattle.tokens.specs.Words.{Word, iri, literal, name, open_brace, close_brace, open_paren, close_paren, dot, bar, slash, caret, star, bang, optional, union, wrong, end}
 use Rattle.tokens.specs.Lexed.{Spot, tokens}
@@ -9,11 +10,6 @@ abbrev pub Filled : List ℕ → Type 0
 Filled [] = ⊥
 Filled (b ∷ bs) = Unit {0}
 
--- every byte passes a test
-abbrev pub Each : (ℕ → Bool) → List ℕ → Type 0
-Each p [] = Unit {0}
-Each p (b ∷ bs) = (p b ≡ true) × Each p bs
-
 -- the first byte, if there is one, does not pass
 abbrev pub Stops : (ℕ → Bool) → List ℕ → Type 0
 Stops p [] = Unit {0}
@@ -21,9 +17,9 @@ Stops p (b ∷ bs) = p b ≡ false
 
 -- body is the word as it is written before rest. A name or a keyword is a whole word: no byte of a word follows it
 abbrev pub Spells : Word → List ℕ → List ℕ → Type 0
-Spells (iri x) body rest = (body ≡ codes "<" ++ (x ++ codes ">")) × Filled x × Each iri_byte x
-Spells (literal x) body rest = (body ≡ codes "\"" ++ (x ++ codes "\"")) × Each literal_byte x
-Spells (name x) body rest = (body ≡ codes "?" ++ x) × Filled x × Each word_byte x × Stops word_byte rest
+Spells (iri x) body rest = (body ≡ codes "<" ++ (x ++ codes ">")) × Filled x × (list_all iri_byte x ≡ true)
+Spells (literal x) body rest = (body ≡ codes "\"" ++ (x ++ codes "\"")) × (list_all literal_byte x ≡ true)
+Spells (name x) body rest = (body ≡ codes "?" ++ x) × Filled x × (list_all word_byte x ≡ true) × Stops word_byte rest
 Spells optional body rest = (body ≡ codes "OPTIONAL") × Stops word_byte rest
 Spells union body rest = (body ≡ codes "UNION") × Stops word_byte rest
 Spells open_brace body rest = body ≡ codes "{"
@@ -47,7 +43,7 @@ Stray bs = Filled bs × Stops blank_byte bs × ((x : Word) (body rest : List ℕ
 abbrev pub Laid : ℕ → List ℕ → List Spot → Type 0
 Laid i bs [] = ⊥
 Laid i bs (s ∷ v) =
-    (gap : List ℕ) × (tail : List ℕ) × (bs ≡ gap ++ tail) × Each blank_byte gap × (s.at ≡ i + length gap)
+    (gap : List ℕ) × (tail : List ℕ) × (bs ≡ gap ++ tail) × (list_all blank_byte gap ≡ true) × (s.at ≡ i + length gap)
     × (((s.word ≡ end) × (tail ≡ []) × (v ≡ []))
     ⊎ ((s.word ≡ wrong) × Stray tail × (v ≡ []))
     ⊎ ((body : List ℕ) × (rest : List ℕ) × (tail ≡ body ++ rest) × Spells s.word body rest × Laid (s.at + length body) rest v))

@@ -1,30 +1,19 @@
 -- How bytes are cut into tokens, each with the offset of its first byte. Tokens are as long as they can be.
-use Rattle.std.specs.Prelude.{◌≡◌, ℕ, zero, suc, ◌+◌, ◌-◌, ◌<◌, ◌≤◌, Bool, true, false, cond, not, ◌&&◌, List, [], ◌∷◌, length, take, drop, codes, ◌==◌}
-use Rattle.terms.specs.Bytes.{blank_byte, iri_byte, literal_byte, word_byte}
+use Rattle.std.specs.Prelude.{◌≡◌, ℕ, zero, suc, ◌+◌, ◌-◌, ◌<◌, ◌≤◌, Bool, true, false, cond, not, ◌&&◌, List, [], ◌∷◌, length, take, take_while, drop, codes, ◌==◌}
+use Rattle.std.specs.Str.{bytes_eq}
+use Rattle.terms.specs.Bytes.{blank_byte, iri_byte, leads, literal_byte, word_byte}
 use Rattle.tokens.specs.declared.token.Token.{Token}
 use Rattle.tokens.specs.declared.token.Token.TheVariants.{Iri, Literal, Variable, OpenBrace, CloseBrace, OpenParen, CloseParen, Dot, Bar, Slash, Caret, Star, Bang, Optional, Union, Wrong, End}
 use Rattle.tokens.specs.declared.token.Lexeme.{Lexeme}
 use Rattle.tokens.specs.Words.{Word, iri, literal, name, open_brace, close_brace, open_paren, close_paren, dot, bar, slash, caret, star, bang, optional, union, wrong, end, saying}
 
--- the longest front whose bytes all pass a test
-abbrev pub front : (ℕ → Bool) → List ℕ → List ℕ
-front p [] = []
-front p (b ∷ bs) = cond (p b) (b ∷ front p bs) []
-
 abbrev pub is_nil : List ℕ → Bool
 is_nil [] = true
 is_nil (b ∷ bs) = false
 
--- the first byte is c
-abbrev pub leads : ℕ → List ℕ → Bool
-leads c [] = false
-leads c (b ∷ bs) = b == c
-
+-- the library's word for it
 abbrev pub same_bytes : List ℕ → List ℕ → Bool
-same_bytes [] [] = true
-same_bytes [] (y ∷ ys) = false
-same_bytes (x ∷ xs) [] = false
-same_bytes (x ∷ xs) (y ∷ ys) = x == y && same_bytes xs ys
+same_bytes = bytes_eq
 
 -- a word, and how many bytes of the text it takes
 pub record Piece : Type 0 where
@@ -39,22 +28,22 @@ stray = piece wrong 1
 
 -- an IRI after its `<`: at least one byte, and then `>`
 abbrev pub iri_piece : List ℕ → Piece
-iri_piece bs = let x = front iri_byte bs in cond (not (is_nil x) && leads 62 (drop (length x) bs)) (piece (iri x) (length x + 2)) stray
+iri_piece bs = let x = take_while iri_byte bs in cond (not (is_nil x) && leads 62 (drop (length x) bs)) (piece (iri x) (length x + 2)) stray
 
 -- a literal after its first quote
 abbrev pub literal_piece : List ℕ → Piece
-literal_piece bs = let x = front literal_byte bs in cond (leads 34 (drop (length x) bs)) (piece (literal x) (length x + 2)) stray
+literal_piece bs = let x = take_while literal_byte bs in cond (leads 34 (drop (length x) bs)) (piece (literal x) (length x + 2)) stray
 
 -- a variable after its `?`
 abbrev pub name_piece : List ℕ → Piece
-name_piece bs = let x = front word_byte bs in cond (is_nil x) stray (piece (name x) (length x + 1))
+name_piece bs = let x = take_while word_byte bs in cond (is_nil x) stray (piece (name x) (length x + 1))
 
 -- the keywords are whole words, in capitals
 abbrev pub keyword : List ℕ → Word
 keyword x = cond (same_bytes x (codes "OPTIONAL")) optional (cond (same_bytes x (codes "UNION")) union wrong)
 
 abbrev pub word_piece : List ℕ → Piece
-word_piece bs = let x = front word_byte bs in piece (keyword x) (length x)
+word_piece bs = let x = take_while word_byte bs in piece (keyword x) (length x)
 
 -- the token of one byte
 abbrev pub signs : ℕ → Word

@@ -1,8 +1,8 @@
 // One token at a time, straight from the bytes of the text.
 ghost use Rattle.std.specs.Prelude.{◌≡◌, ◌+◌, ◌<◌, true, length, drop, slice_index};
-ghost use Rattle.terms.specs.Bytes.{word_byte};
+ghost use Rattle.terms.specs.Bytes.{leads, word_byte};
 ghost use Rattle.tokens.specs.Words.{sort};
-ghost use Rattle.tokens.specs.Lexed.{First, leads, iri_piece, literal_piece, name_piece, word_piece, lexeme, signs, keyword as keyword_of};
+ghost use Rattle.tokens.specs.Lexed.{First, iri_piece, literal_piece, name_piece, word_piece, lexeme, signs, keyword as keyword_of};
 ghost use Rattle.tokens.specs.Pieces.{Reads};
 ghost use Rattle.tokens.specs.declared.token.Token.TheVariants.{Wrong};
 

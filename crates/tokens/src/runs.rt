@@ -1,6 +1,5 @@
 // Runs of bytes of one class, as long as they can be.
 ghost use Rattle.std.specs.Prelude.{◌≡◌, ◌+◌, length, drop, take_while};
-ghost use Rattle.tokens.specs.Lexed.{front};
 ghost use Rattle.tokens.specs.Runs.{passes};
 
 use terms::{is_blank, is_iri_byte, is_literal_byte, is_word_byte};
@@ -35,7 +34,7 @@ fn run(bytes: &[u8], class: Class) -> usize
 
 // Where the longest run of bytes of a class ends that begins at `from`.
 pub fn run_end(text: &[u8], from: usize, class: Class) -> usize
-    ensures { result ≡ from + length (front (passes class) (drop from text.now)) }
+    ensures { result ≡ from + length (take_while (passes class) (drop from text.now)) }
 {
     if from < text.len() {
         from + run(&text[from..], class)

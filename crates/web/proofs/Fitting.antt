@@ -1,7 +1,8 @@
 -- The terms of a lawful meaning are short.
 use Rattle.std.proofs.Common.{◌≡◌, ℕ, zero, suc, ◌≤◌, Bool, true, false, cond, ◌&&◌, eqb, leb, List, [], ◌∷◌, length, Some, None, Option, refl, ap, arith, leb-true}
+use Rattle.std.specs.List.{list_all}
 use Rattle.terms.specs.Bytes.{iri_byte, literal_byte}
-use Rattle.terms.specs.Lawful.{every, is_iri, lawful_bytes}
+use Rattle.terms.specs.Lawful.{is_iri, lawful_bytes}
 use Rattle.terms.specs.Terms.{Term}
 use Rattle.terms.specs.declared.kind.Kind.{Kind}
 use Rattle.terms.specs.declared.kind.Kind.TheVariants.{Iri, Literal}
@@ -17,11 +18,11 @@ and_right true b e = e
 and_right false b e = let z : ◌≡◌ {A = ℕ} 0 1 = cc in absurd (omega arith)
 
 iri_short : (x : List ℕ) → is_iri x ≡ true → length x ≤ 128
-iri_short x e = leb-true (length x) 128 (and_right (leb 1 (length x)) (leb (length x) 128) (and_left (leb 1 (length x) && leb (length x) 128) (every iri_byte x) e))
+iri_short x e = leb-true (length x) 128 (and_right (leb 1 (length x)) (leb (length x) 128) (and_left (leb 1 (length x) && leb (length x) 128) (list_all iri_byte x) e))
 
 bytes_short : (kind : Kind) (x : List ℕ) → lawful_bytes kind x ≡ true → length x ≤ 128
 bytes_short Iri x e = iri_short x e
-bytes_short Literal x e = leb-true (length x) 128 (and_left (leb (length x) 128) (every literal_byte x) e)
+bytes_short Literal x e = leb-true (length x) 128 (and_left (leb (length x) 128) (list_all literal_byte x) e)
 
 iri_term_short : (t : Term) → lawful_iri t ≡ true → length t.bytes ≤ 128
 iri_term_short t e = iri_short t.bytes (and_right (is_kind_iri t.kind) (is_iri t.bytes) e)

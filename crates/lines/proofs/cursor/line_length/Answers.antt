@@ -1,6 +1,7 @@
-use Rattle.std.proofs.Common.{◌-◌, length, take, drop, sym, ◌∙◌, arith}
+use Rattle.std.proofs.Common.{sym, arith}
+use Rattle.terms.proofs.Runs.{run_fits}
 use Rattle.lines.specs.Runs.{differs}
-use Rattle.lines.proofs.Fronts.{front_turn, front_rest, front_fits, taken}
+use Rattle.lines.proofs.Fronts.{front_turn, front_rest}
 use Rattle.lines.proofs.cursor.line_length.Goals as goal
 
 pub loop-start-preserved : goal.loop-start-preserved
@@ -9,5 +10,5 @@ loop-start-preserved c =
 
 pub returns : goal.returns
 returns c =
-    let all = front_rest (differs 10) c.args.bytes.now c.loop-start.start c.run_before.result c.loop-start.invariant.1 (c.run_before.ensures.longest ∙ taken (differs 10) (take (length c.args.bytes.now - c.loop-start.start) (drop c.loop-start.start c.args.bytes.now))) in
-    record { longest = all; within = omega (arith, all, front_fits (differs 10) c.args.bytes.now) }
+    let all = front_rest (differs 10) c.args.bytes.now c.loop-start.start c.run_before.result c.loop-start.invariant.1 c.run_before.ensures.longest in
+    record { longest = all; within = omega (arith, all, run_fits (differs 10) c.args.bytes.now) }
