@@ -47,14 +47,11 @@ differs_not c b e = go (eqb b c) refl e
     go false q e = let z : ◌≡◌ {A = ℕ} 0 1 = cc in absurd (omega arith)
 
 -- the line that the code takes off, and what it leaves
-pub line_taken : (n : ℕ) (bs : List ℕ) (k m : ℕ) → 0 < length bs → k ≡ length (line bs) → k ≤ length bs → (k < length bs → m ≡ k + 1) → (length bs ≤ k → m ≡ k) → Taken n bs (take (k - 0) bs) (n + 1) (n + 1) (take (length bs - m) (drop m bs))
-line_taken n bs k m h e w f g = go (cases_lt k (length bs))
+pub line_taken : (n : ℕ) (bs : List ℕ) (k m : ℕ) → 0 < length bs → k ≡ length (line bs) → (k < length bs → m ≡ k + 1) → (length bs ≤ k → m ≡ k) → Taken n bs (take (k - 0) bs) (n + 1) (n + 1) (take (length bs - m) (drop m bs))
+line_taken n bs k m h e f g = go (cases_lt k (length bs))
   where
     zero_less : k - 0 ≡ k
     zero_less = omega arith
-
-    rest : List ℕ
-    rest = take (length bs - m) (drop m bs)
 
     taken : (bs ≡ take (k - 0) bs ++ (10 ∷ take (length bs - m) (drop m bs))) ⊎ ((bs ≡ take (k - 0) bs) × (take (length bs - m) (drop m bs) ≡ [])) → drop m bs ≡ drop (length (line bs) + 1) bs → 0 < m → Taken n bs (take (k - 0) bs) (n + 1) (n + 1) (take (length bs - m) (drop m bs))
     taken parts d p = record {

@@ -26,7 +26,7 @@ front_many : (p : ℕ → Bool) (k : ℕ) (bs : List ℕ) → k ≤ length bs �
 front_many p zero bs h e = omega arith
 front_many p (suc k) [] h e = absurd (omega arith)
 front_many p (suc k) (b ∷ bs) h e =
-    let two = and_parts _ _ e in
+    let two : (p b ≡ true) × (list_all p (take k bs) ≡ true) = and_parts _ _ e in
     omega (arith, ap length (run_more p b bs two.0), front_many p k bs (omega arith) two.1)
 
 pub front_turn : (p : ℕ → Bool) (bs : List ℕ) (i k : ℕ) → i + k ≤ length bs → list_all p (take (i + k - i) (drop i bs)) ≡ true → length (take_while p bs) ≡ i + length (take_while p (drop i bs))

@@ -35,8 +35,7 @@ fn unbroken(bytes: &[u8]) -> bool
 
 // How many bytes the first line has: by sixteens while none ends it, and then one by one.
 fn line_length(bytes: &[u8]) -> usize
-    ensures longest { result ≡ length (take_while (differs 10) bytes.now) }
-    ensures within { result ≤ length bytes.now }
+    ensures { result ≡ length (take_while (differs 10) bytes.now) }
 {
     let mut start = 0;
     while bytes.len() - start >= 16 && unbroken(&bytes[start..start + 16]) {

@@ -6,8 +6,7 @@ use terms::{Kind, is_iri_byte, is_literal_byte};
 
 // How many bytes stand here that a term of a kind may have. A chain for each kind, so that none asks for the kind at every byte.
 pub fn term_run(bytes: &[u8], kind: Kind) -> usize
-    ensures longest { result ≡ length (take_while (term_byte kind) bytes.now) }
-    ensures within { result ≤ length bytes.now }
+    ensures { result ≡ length (take_while (term_byte kind) bytes.now) }
 {
     match kind {
         Kind::Iri => bytes.iter().take_while(|b| is_iri_byte(**b)).count(),
@@ -17,8 +16,7 @@ pub fn term_run(bytes: &[u8], kind: Kind) -> usize
 
 // How many bytes stand before the first that is `stop`.
 pub fn run_before(bytes: &[u8], stop: u8) -> usize
-    ensures longest { result ≡ length (take_while (differs stop) bytes.now) }
-    ensures within { result ≤ length bytes.now }
+    ensures { result ≡ length (take_while (differs stop) bytes.now) }
 {
     bytes.iter().take_while(|b| **b != stop).count()
 }

@@ -10,6 +10,6 @@ returns-then-is_empty-clause-steps c = (nil_from_length c.args.self.now.rest.now
 pub returns-clause-steps : goal.returns-clause-steps
 returns-clause-steps c =
     let some = false-eqb _ _ c.if-is_empty.ensures in
-    line_taken c.args.self.now.passed c.args.self.now.rest.now c.line_length-length.result c.if-length-rest.next (omega arith) c.line_length-length.ensures.longest c.line_length-length.ensures.within
+    line_taken c.args.self.now.passed c.args.self.now.rest.now c.line_length-length.result c.if-length-rest.next (omega arith) c.line_length-length.ensures
     (λ h. elim c.if-length-rest.branch [ then-length-rest w ↦ w.next-is | else-length-rest w ↦ absurd (omega arith) ])
     (λ h. elim c.if-length-rest.branch [ then-length-rest w ↦ absurd (omega arith) | else-length-rest w ↦ w.next-is ])
