@@ -1,5 +1,5 @@
 -- A line is the longest run of bytes that are no LF.
-use Rattle.std.proofs.Common.{◌≡◌, ℕ, suc, ◌+◌, ◌-◌, ◌<◌, ◌≤◌, Bool, true, false, cond, not, eqb, ◌⊎◌, List, [], ◌∷◌, ◌++◌, length, get_or, take, take_while, drop, sym, refl, ap, ◌∙◌, ap₂, inl, inr, arith, eqb-true}
+use Rattle.std.proofs.Common.{◌≡◌, ℕ, suc, ◌+◌, ◌-◌, ◌<◌, ◌≤◌, min, Bool, true, false, cond, not, eqb, ◌⊎◌, List, [], ◌∷◌, ◌++◌, length, get_or, take, take_while, drop, sym, refl, ap, ◌∙◌, ap₂, inl, inr, arith, eqb-true}
 use Rattle.std.proofs.lemmas.Bool.{cases_lt}
 use Rattle.std.proofs.lemmas.List.{drop_all, drop_more, take_all, take-append-drop, take_rest, length-drop}
 use Rattle.terms.proofs.Runs.{run_take, run_ends, run_more, run_none}
@@ -47,9 +47,15 @@ differs_not c b e = go (eqb b c) refl e
     go false q e = let z : ◌≡◌ {A = ℕ} 0 1 = cc in absurd (omega arith)
 
 -- the line that the code takes off, and what it leaves
-pub line_taken : (n : ℕ) (bs : List ℕ) (k m : ℕ) → 0 < length bs → k ≡ length (line bs) → (k < length bs → m ≡ k + 1) → (length bs ≤ k → m ≡ k) → Taken n bs (take (k - 0) bs) (n + 1) (n + 1) (take (length bs - m) (drop m bs))
-line_taken n bs k m h e f g = go (cases_lt k (length bs))
+pub line_taken : (n : ℕ) (bs : List ℕ) (k m : ℕ) → 0 < length bs → k ≡ length (line bs) → m ≡ min (k + 1) (length bs) → Taken n bs (take (k - 0) bs) (n + 1) (n + 1) (take (length bs - m) (drop m bs))
+line_taken n bs k m h e i = go (cases_lt k (length bs))
   where
+    f : k < length bs → m ≡ k + 1
+    f l = omega (arith, i)
+
+    g : length bs ≤ k → m ≡ length bs
+    g l = omega (arith, i)
+
     zero_less : k - 0 ≡ k
     zero_less = omega arith
 

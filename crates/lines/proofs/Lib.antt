@@ -1,4 +1,4 @@
-pub mod Fronts
+pub mod Before
 pub mod Cutting
 pub mod Fronted
 pub mod Marks

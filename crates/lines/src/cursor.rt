@@ -1,8 +1,6 @@
 // The cursor over the lines of a file.
-ghost use Rattle.std.specs.Prelude.{◌≡◌, ◌+◌, ◌^◌, ◌<◌, ◌≤◌, length, take_while};
+ghost use Rattle.std.specs.Prelude.{◌+◌, ◌^◌, ◌<◌, length};
 ghost use Rattle.std.specs.Iterator.{at_most};
-ghost use Rattle.std.specs.List.{list_all};
-ghost use Rattle.lines.specs.Runs.{differs};
 
 use crate::runs::run_before;
 
@@ -22,28 +20,6 @@ pub struct Lines<'a> {
     pub ghost counted: { passed + length rest.now < 2 ^ 64 },
 }
 
-// None of these bytes ends a line. They are all looked at, with no branch, so that many can be compared at once.
-fn unbroken(bytes: &[u8]) -> bool
-    ensures { result ≡ list_all (differs 10) bytes.now }
-{
-    let mut whole = true;
-    for b in bytes {
-        whole &= *b != b'\n';
-    }
-    whole
-}
-
-// How many bytes the first line has: by sixteens while none ends it, and then one by one.
-fn line_length(bytes: &[u8]) -> usize
-    ensures { result ≡ length (take_while (differs 10) bytes.now) }
-{
-    let mut start = 0;
-    while bytes.len() - start >= 16 && unbroken(&bytes[start..start + 16]) {
-        start += 16;
-    }
-    start + run_before(&bytes[start..], b'\n')
-}
-
 impl<'a> Iterator for Lines<'a> {
     ghost use Rattle.lines.specs.Steps.{NextLine};
 
@@ -58,14 +34,9 @@ impl<'a> Iterator for Lines<'a> {
             return None;
         }
         let rest = self.rest;
-        let length = line_length(rest);
+        let length = run_before(rest, b'\n');
         self.passed += 1;
-        let next = if length < rest.len() {
-            length + 1
-        } else {
-            length
-        };
-        self.rest = &rest[next..];
+        self.rest = &rest[(length + 1).min(rest.len())..];
         Some(Line {
             bytes: &rest[0..length],
             number: self.passed,

@@ -1,7 +1,8 @@
-// Runs of bytes, as long as they can be.
-ghost use Rattle.std.specs.Prelude.{◌≡◌, ◌≤◌, length, take_while};
+// Runs of bytes, as long as they can be. A run is a front of the bytes, so it is never longer than they are.
+ghost use Rattle.std.specs.Prelude.{◌≡◌, length, take_while};
 ghost use Rattle.lines.specs.Runs.{differs, term_byte};
 
+use memchr::memchr;
 use terms::{Kind, is_iri_byte, is_literal_byte};
 
 // How many bytes stand here that a term of a kind may have. A chain for each kind, so that none asks for the kind at every byte.
@@ -15,8 +16,9 @@ pub fn term_run(bytes: &[u8], kind: Kind) -> usize
 }
 
 // How many bytes stand before the first that is `stop`.
+#[tactic(auto, using(crate::proofs::Before::before_first))]
 pub fn run_before(bytes: &[u8], stop: u8) -> usize
     ensures { result ≡ length (take_while (differs stop) bytes.now) }
 {
-    bytes.iter().take_while(|b| **b != stop).count()
+    memchr(stop, bytes).unwrap_or(bytes.len())
 }

@@ -16,10 +16,10 @@ run_take p bs = ap (λ n. take n bs) (length-prefix_len p bs)
 pub run_ends : (p : ℕ → Bool) (bs : List ℕ) → length (take_while p bs) < length bs → p (get_or bs (length (take_while p bs)) 0) ≡ false
 run_ends p bs h = ap (λ n. p (get_or bs n 0)) (length-prefix_len p bs) ∙ prefix_len_stops p bs 0 (omega (arith, length-prefix_len p bs))
 
-pub run_more : (p : ℕ → Bool) (b : ℕ) (bs : List ℕ) → p b ≡ true → take_while p (b ∷ bs) ≡ b ∷ take_while p bs
+pub run_more : {X : Type 0} (p : X → Bool) (b : X) (bs : List X) → p b ≡ true → take_while p (b ∷ bs) ≡ b ∷ take_while p bs
 run_more p b bs e = take_while-cons p b bs ∙ ap (λ t. cond t (b ∷ take_while p bs) []) e
 
-pub run_none : (p : ℕ → Bool) (b : ℕ) (bs : List ℕ) → p b ≡ false → take_while p (b ∷ bs) ≡ []
+pub run_none : {X : Type 0} (p : X → Bool) (b : X) (bs : List X) → p b ≡ false → take_while p (b ∷ bs) ≡ []
 run_none p b bs e = take_while-cons p b bs ∙ ap (λ t. cond t (b ∷ take_while p bs) []) e
 
 pub run_all : (p : ℕ → Bool) (bs : List ℕ) → list_all p (take_while p bs) ≡ true

@@ -66,7 +66,7 @@ saying Union x = union
 saying Wrong x = wrong
 saying End x = end
 
--- a number for each sort, so that sorts can be compared
+-- a number for each sort, so that sorts can be compared without a case for each two of them
 abbrev pub code : Token → ℕ
 code Iri = 0
 code Literal = 1

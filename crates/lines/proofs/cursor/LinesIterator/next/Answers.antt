@@ -2,7 +2,6 @@ use Rattle.std.proofs.Common.{refl, arith, true-eqb, false-eqb}
 use Rattle.std.proofs.lemmas.List.{nil_from_length}
 use Rattle.lines.proofs.Cutting.{line_taken}
 use Rattle.lines.proofs.cursor.LinesIterator.next.Goals as goal
-use Rattle.lines.proofs.cursor.LinesIterator.next.Goals.{then-length-rest, else-length-rest}
 
 pub returns-then-is_empty-clause-steps : goal.returns-then-is_empty-clause-steps
 returns-then-is_empty-clause-steps c = (nil_from_length c.args.self.now.rest.now (true-eqb _ _ c.if-is_empty.ensures), refl)
@@ -10,6 +9,4 @@ returns-then-is_empty-clause-steps c = (nil_from_length c.args.self.now.rest.now
 pub returns-clause-steps : goal.returns-clause-steps
 returns-clause-steps c =
     let some = false-eqb _ _ c.if-is_empty.ensures in
-    line_taken c.args.self.now.passed c.args.self.now.rest.now c.line_length-length.result c.if-length-rest.next (omega arith) c.line_length-length.ensures
-    (λ h. elim c.if-length-rest.branch [ then-length-rest w ↦ w.next-is | else-length-rest w ↦ absurd (omega arith) ])
-    (λ h. elim c.if-length-rest.branch [ then-length-rest w ↦ absurd (omega arith) | else-length-rest w ↦ w.next-is ])
+    line_taken c.args.self.now.passed c.args.self.now.rest.now c.run_before-length.result c.min.result (omega arith) c.run_before-length.ensures c.min.ensures
