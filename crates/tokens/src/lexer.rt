@@ -14,7 +14,7 @@ use terms::is_word_byte;
 fn stands(text: &[u8], at: usize, b: u8) -> bool
     ensures { result ≡ leads b (drop at text.now) }
 {
-    at < text.len() && text[at] == b
+    text.get(at) == Some(&b)
 }
 
 fn keyword(word: &[u8]) -> Token
