@@ -1,6 +1,5 @@
 pub mod Placing
 pub mod Walking
 pub mod Seeing
-pub mod Telling
 pub mod Parting
 pub mod Sampling

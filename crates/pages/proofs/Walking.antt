@@ -1,17 +1,27 @@
 -- The turns of the scanning loops.
-use Rattle.std.proofs.Common.{◌≡◌, ℕ, zero, suc, ◌+◌, ◌<◌, ◌≤◌, ◌⊎◌, List, [], ◌∷◌, ◌++◌, length, Some, None, Option, sym, refl, ap, ◌∙◌, inl, inr, append_assoc, arith}
+use Rattle.std.proofs.Common.{◌≡◌, ℕ, zero, suc, ◌+◌, ◌≤◌, Bool, true, false, ◌⊎◌, List, [], ◌∷◌, ◌++◌, length, Some, None, Option, sym, refl, ap, ◌∙◌, subst, inl, inr, append_assoc, arith}
 use Rattle.web.specs.Meaning.{Triple, listed}
 use Rattle.lines.specs.Lines.{lines}
-use Rattle.lines.specs.Readings.{Said, nothing, opens, states, unreadable, says, opening, statement}
+use Rattle.lines.specs.Readings.{Said, nothing, opens, states, unreadable, says, opening}
 use Rattle.pages.specs.declared.cause.Fault.TheVariants.{Unreadable, OpenedAgain}
 use Rattle.pages.specs.declared.cause.PageCause.{PageCause}
-use Rattle.pages.specs.Pages.{Numbered, numbered, lines_on, stated, with_stated, first_fault, fault_of, or_else, cause}
-use Rattle.lines.specs.Steps.{Taken}
+use Rattle.pages.specs.Pages.{Numbered, numbered, is_page, lines_on, stated, with_stated, first_fault, fault_of, or_else, cause}
+use Rattle.lines.specs.Steps.{NextLine, Taken, triple_of}
+use Rattle.lines.specs.declared.cursor.Line.{Line}
+use Rattle.lines.specs.declared.cursor.Lines.{Lines}
+use Rattle.lines.specs.declared.saying.Stated.{Stated}
 use Rattle.pages.specs.Steps.{Opened, Passed}
 use Rattle.lines.proofs.Cutting.{lines_nil}
 use Rattle.std.proofs.lemmas.List.{append-nil, length-append}
 use Rattle.std.proofs.lemmas.Bool.{cases_eq}
-use Rattle.lines.proofs.Sayings.{says_opening, states_by}
+use Rattle.std.proofs.lemmas.Bool.{true≢false}
+use Rattle.std.proofs.lemmas.Slice.Eq.{bytes_eq-Decides}
+use Rattle.std.specs.Bool.{then_some}
+use Rattle.std.specs.Iterator.{ActsAs, ChecksAny, Yields}
+use Rattle.std.specs.List.{FoldsTo}
+use Rattle.std.specs.Option.{option_map, MatchOption}
+use denote.Param.Members.{Mut, Called}
+use Rattle.lines.proofs.Sayings.{says_opening}
 use Rattle.pages.proofs.Placing.{on_nil, off_pass, on_other, on_opens, on_stays, Stays}
 
 -- ---- to the next opening of a page
@@ -24,30 +34,52 @@ pub record Same (a : List ℕ) (n0 : ℕ) (bytes0 : List ℕ) (n : ℕ) (bytes :
 pub same_start : (a : List ℕ) (n : ℕ) (bytes : List ℕ) → Same a n bytes n bytes
 same_start a n bytes = record { on = refl; bound = omega arith }
 
-module _ (a : List ℕ) (n0 : ℕ) (bytes0 : List ℕ) (n : ℕ) (bytes line : List ℕ) (k m : ℕ) (rest : List ℕ) (s : Same a n0 bytes0 n bytes) (t : Taken n bytes line k m rest) where
+module _ {a : List ℕ} {n0 : ℕ} {bytes0 : List ℕ} {n : ℕ} {bytes line : List ℕ} {k m : ℕ} {rest : List ℕ} (s : Same a n0 bytes0 n bytes) (t : Taken n bytes line k m rest) where
   bounded : m + length rest ≤ n0 + length bytes0
   bounded = omega (arith, s.bound, t.next, t.less)
 
-  pub find_here : (b : List ℕ) → opening line ≡ Some b → b ≡ a → Opened a n0 bytes0 m rest
-  find_here b o e = record {
-    goes = s.on ∙ ap (lines_on a n None) t.first ∙ on_opens a n None line b (lines rest) (says_opening line b o) e ∙ ap (λ i. numbered i (opens a) ∷ lines_on a i (Some a) (lines rest)) (sym t.next);
-    bound = bounded;
-  }
+  pub find_here : is_page a (opening line) ≡ true → Opened a n0 bytes0 m rest
+  find_here e = go (opening line) refl e
+    where
+      go : (o : Option (List ℕ)) → opening line ≡ o → is_page a o ≡ true → Opened a n0 bytes0 m rest
+      go None o e = absurd (true≢false (sym e))
+      go (Some b) o e = record {
+        goes = s.on ∙ ap (lines_on a n None) t.first ∙ on_opens a n None line b (lines rest) (says_opening line b o) ((bytes_eq-Decides b a).0 e) ∙ ap (λ i. numbered i (opens a) ∷ lines_on a i (Some a) (lines rest)) (sym t.next);
+        bound = bounded;
+      }
 
-  pub find_other : (b : List ℕ) → opening line ≡ Some b → (b ≡ a → ⊥) → Same a n0 bytes0 m rest
-  find_other b o f = record {
-    on = s.on ∙ ap (lines_on a n None) t.first ∙ on_other a n None line b (lines rest) (says_opening line b o) f ∙ ap (λ i. lines_on a i None (lines rest)) (sym t.next);
-    bound = bounded;
-  }
+  pub find_on : is_page a (opening line) ≡ false → Same a n0 bytes0 m rest
+  find_on e = record { on = s.on ∙ ap (lines_on a n None) t.first ∙ go (opening line) refl e ∙ ap (λ i. lines_on a i None (lines rest)) (sym t.next); bound = bounded }
+    where
+      go : (o : Option (List ℕ)) → opening line ≡ o → is_page a o ≡ false → lines_on a n None (line ∷ lines rest) ≡ lines_on a (n + 1) None (lines rest)
+      go None o e = off_pass a n line (lines rest) o
+      go (Some b) o e = on_other a n None line b (lines rest) (says_opening line b o) (λ f. true≢false (sym ((bytes_eq-Decides b a).1 f) ∙ e))
 
-  pub find_on : opening line ≡ None → Same a n0 bytes0 m rest
-  find_on o = record {
-    on = s.on ∙ ap (lines_on a n None) t.first ∙ off_pass a n line (lines rest) o ∙ ap (λ i. lines_on a i None (lines rest)) (sym t.next);
-    bound = bounded;
-  }
+find_none : {a : List ℕ} {n0 : ℕ} {bytes0 : List ℕ} {n : ℕ} {bytes : List ℕ} → Same a n0 bytes0 n bytes → bytes ≡ [] → lines_on a n0 None (lines bytes0) ≡ []
+find_none {a} {n = n} s e = s.on ∙ ap (λ b. lines_on a n None (lines b)) e ∙ ap (lines_on a n None) lines_nil ∙ on_nil a n None
 
-pub find_none : (a : List ℕ) (n0 : ℕ) (bytes0 : List ℕ) (n : ℕ) (bytes : List ℕ) → Same a n0 bytes0 n bytes → bytes ≡ [] → lines_on a n0 None (lines bytes0) ≡ []
-find_none a n0 bytes0 n bytes s e = s.on ∙ ap (λ b. lines_on a n None (lines b)) e ∙ ap (lines_on a n None) lines_nil ∙ on_nil a n None
+-- calls of a closure that tells of each line whether it opens the page a
+module _ {F : Type 0} (g : Mut F (Line × Unit {0}) Bool) (f : F) (a : List ℕ) (tells : ActsAs g f (λ (l : Line). is_page a (opening l.bytes.now))) (from : Lines) where
+  abbrev Passing : Lines → Type 0
+  Passing s = Same a from.passed from.rest.now s.passed s.rest.now
+
+  -- lines that do not are passed, and the closure stays as it was
+  find_past : (xs : List Line) (s t : Lines) (p h : F) → p ≡ f → Passing s → Yields NextLine s xs t → FoldsTo (λ p x q. Called g p (x, tt) false q) p xs h → Passing t × (h ≡ f)
+  find_past [] s t p h e m y k = (subst Passing y m, sym k ∙ e)
+  find_past (x ∷ xs) s t p h e m (j, y, ys) (q, k, ks) =
+      let r = tells x false q (subst (λ i. Called g i (x, tt) false q) e k) in
+      find_past xs j t q h r.0 (find_on m y (sym r.1)) ys ks
+
+  abbrev Finds : Option Lines → Type 0
+  Finds o = MatchOption o (lines_on a from.passed None (lines from.rest.now) ≡ []) (λ l. Opened a from.passed from.rest.now l.passed l.rest.now)
+
+  pub find_first : (r : Bool) (u : Lines) → ChecksAny NextLine g from f r u → Finds (then_some r u)
+  find_first r u (xs, None, h, (t, y, e), k, q) =
+      let m = find_past xs from t f h refl (same_start a from.passed from.rest.now) y k in
+      subst (λ v. Finds (then_some v u)) (sym q) (find_none m.0 e.0)
+  find_first r u (xs, Some l, h, (t, y, e), k, (q, (z, w))) =
+      let m = find_past xs from t f h refl (same_start a from.passed from.rest.now) y k in
+      subst (λ v. Finds (then_some v u)) (sym q) (find_here m.0 e (sym (tells l true z (subst (λ i. Called g i (l, tt) true z) m.1 w)).1))
 
 -- ---- along a page
 
@@ -69,16 +101,18 @@ stated_append (x ∷ p) q = go x.what (stated_append p q)
     go (states t) h = ap (λ ts. t ∷ ts) h
     go unreadable h = h
 
-listed_front : (place : ℕ) (ts us : List Triple) → place < length ts → listed place (ts ++ us) ≡ listed place ts
-listed_front place [] us h = absurd (omega arith)
-listed_front zero (t ∷ ts) us h = refl
-listed_front (suc place) (t ∷ ts) us h = listed_front place ts us (omega arith)
+-- a further triple stands behind the others
+listed_other : (place : ℕ) (ts : List Triple) (t : Triple) → (place ≡ length ts → ⊥) → listed place (ts ++ t ∷ []) ≡ listed place ts
+listed_other zero [] t f = absurd (f refl)
+listed_other (suc place) [] t f = refl
+listed_other zero (x ∷ ts) t f = refl
+listed_other (suc place) (x ∷ ts) t f = listed_other place ts t (λ e. f (ap suc e))
 
 listed_last : (ts : List Triple) (t : Triple) → listed (length ts) (ts ++ t ∷ []) ≡ Some t
 listed_last [] t = refl
 listed_last (x ∷ ts) t = listed_last ts t
 
-module _ (a : List ℕ) (n0 : ℕ) (bytes0 : List ℕ) (place count : ℕ) (kept : List ℕ) (n : ℕ) (bytes line : List ℕ) (k m : ℕ) (rest : List ℕ)
+module _ {a : List ℕ} {n0 : ℕ} {bytes0 : List ℕ} {place count : ℕ} {kept : Option Stated} {n : ℕ} {bytes line : List ℕ} {k m : ℕ} {rest : List ℕ}
     (p : Passed a n0 bytes0 place count kept (Some a) n bytes) (t : Taken n bytes line k m rest) where
   -- the next line is on the page
   line_on : (s : Said) → says line ≡ s → Stays s → lines_on a n0 (Some a) (lines bytes0) ≡ p.page ++ (numbered m s ∷ lines_on a m (Some a) (lines rest))
@@ -95,27 +129,28 @@ module _ (a : List ℕ) (n0 : ℕ) (bytes0 : List ℕ) (place count : ℕ) (kept
         goes = further nothing e tt;
         good = fault_append p.page (numbered m nothing ∷ []) p.good;
         counted = p.counted ∙ ap length (sym same);
-        keeps = λ h. p.keeps h ∙ ap (listed place) (sym same);
+        keeps = p.keeps ∙ ap (listed place) (sym same);
         few = omega (arith, p.few, t.next);
         bound = omega (arith, p.bound, t.next, t.less);
       }
 
-  pub pass_states : (x : Triple) (next : List ℕ) → says line ≡ states x → (count ≡ place → next ≡ line) → ((count ≡ place → ⊥) → next ≡ kept) → Passed a n0 bytes0 place (count + 1) next (Some a) m rest
+  pub pass_states : (x : Stated) (next : Option Stated) → says line ≡ states (triple_of x) → (count ≡ place → next ≡ Some x) → ((count ≡ place → ⊥) → next ≡ kept) → Passed a n0 bytes0 place (count + 1) next (Some a) m rest
   pass_states x next e here there =
-      let more : stated (p.page ++ numbered m (states x) ∷ []) ≡ stated p.page ++ x ∷ [] = stated_append p.page (numbered m (states x) ∷ []) in
+      let y : Triple = triple_of x in
+      let more : stated (p.page ++ numbered m (states y) ∷ []) ≡ stated p.page ++ y ∷ [] = stated_append p.page (numbered m (states y) ∷ []) in
       record {
-        page = p.page ++ numbered m (states x) ∷ [];
-        goes = further (states x) e tt;
-        good = fault_append p.page (numbered m (states x) ∷ []) p.good;
-        counted = omega (arith, p.counted, ap length more, length-append (stated p.page) (x ∷ []));
-        keeps = λ h. keep (cases_eq count place) h ∙ ap (listed place) (sym more);
+        page = p.page ++ numbered m (states y) ∷ [];
+        goes = further (states y) e tt;
+        good = fault_append p.page (numbered m (states y) ∷ []) p.good;
+        counted = omega (arith, p.counted, ap length more, length-append (stated p.page) (y ∷ []));
+        keeps = keep (cases_eq count place) ∙ ap (listed place) (sym more);
         few = omega (arith, p.few, t.next);
         bound = omega (arith, p.bound, t.next, t.less);
       }
     where
-      keep : (count ≡ place) ⊎ (count ≡ place → ⊥) → place < count + 1 → statement next ≡ listed place (stated p.page ++ x ∷ [])
-      keep (inl h) l = ap statement (here h) ∙ states_by line x e ∙ sym (ap (λ i. listed i (stated p.page ++ x ∷ [])) (sym h ∙ p.counted) ∙ listed_last (stated p.page) x)
-      keep (inr h) l = ap statement (there h) ∙ p.keeps (omega arith) ∙ sym (listed_front place (stated p.page) (x ∷ []) (omega (arith, p.counted)))
+      keep : (count ≡ place) ⊎ (count ≡ place → ⊥) → option_map triple_of next ≡ listed place (stated p.page ++ triple_of x ∷ [])
+      keep (inl h) = ap (option_map triple_of) (here h) ∙ sym (ap (λ i. listed i (stated p.page ++ triple_of x ∷ [])) (sym h ∙ p.counted) ∙ listed_last (stated p.page) (triple_of x))
+      keep (inr f) = ap (option_map triple_of) (there f) ∙ p.keeps ∙ sym (listed_other place (stated p.page) (triple_of x) (λ e. f (p.counted ∙ sym e)))
 
   pub pass_other : (b : List ℕ) → says line ≡ opens b → (b ≡ a → ⊥) → Passed a n0 bytes0 place count kept None m rest
   pass_other b e f = record {
@@ -137,9 +172,9 @@ module _ (a : List ℕ) (n0 : ℕ) (bytes0 : List ℕ) (place count : ℕ) (kept
   pass_bad e =
       ap first_fault (line_on unreadable e tt) ∙ fault_append p.page (numbered m unreadable ∷ lines_on a m (Some a) (lines rest)) p.good ∙ ap (λ i. Some (cause Unreadable i)) (t.next ∙ sym t.count)
 
-pub pass_end : (a : List ℕ) (n0 : ℕ) (bytes0 : List ℕ) (place count : ℕ) (kept : List ℕ) (n : ℕ) (bytes : List ℕ)
+pub pass_end : {a : List ℕ} {n0 : ℕ} {bytes0 : List ℕ} {place count : ℕ} {kept : Option Stated} {n : ℕ} {bytes : List ℕ}
     → Passed a n0 bytes0 place count kept (Some a) n bytes → bytes ≡ [] → Passed a n0 bytes0 place count kept None n bytes
-pass_end a n0 bytes0 place count kept n bytes p e = record {
+pass_end {a} {n = n} {bytes = bytes} p e = record {
   page = p.page;
   goes = p.goes ∙ ap (λ q. p.page ++ q) (none (Some a) ∙ sym (none None));
   good = p.good;
@@ -152,13 +187,13 @@ pass_end a n0 bytes0 place count kept n bytes p e = record {
     none : (o : Option (List ℕ)) → lines_on a n o (lines bytes) ≡ []
     none o = ap (λ b. lines_on a n o (lines b)) e ∙ ap (lines_on a n o) lines_nil ∙ on_nil a n o
 
-pub pass_start : (a : List ℕ) (n : ℕ) (bytes : List ℕ) (place : ℕ) (kept : List ℕ) → Passed a n bytes place 0 kept (Some a) n bytes
-pass_start a n bytes place kept = record {
+pub pass_start : (a : List ℕ) (n : ℕ) (bytes : List ℕ) (place : ℕ) → Passed a n bytes place 0 None (Some a) n bytes
+pass_start a n bytes place = record {
   page = [];
   goes = refl;
   good = refl;
   counted = refl;
-  keeps = λ h. absurd (omega arith);
+  keeps = refl;
   few = omega arith;
   bound = omega arith;
 }

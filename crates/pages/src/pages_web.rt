@@ -1,5 +1,6 @@
 // The page file as a Web.
-ghost use Rattle.std.specs.Prelude.{◌≡◌, ◌<◌, length, Some, None, MatchOption, MatchResult};
+ghost use Rattle.std.specs.Prelude.{◌≡◌, ◌<◌, length, MatchOption, MatchResult};
+ghost use Rattle.std.specs.Option.{option_map};
 ghost use Rattle.lines.specs.Steps.{triple_of};
 ghost use Rattle.pages.specs.Limits.{Made, too_long_number};
 ghost use Rattle.pages.specs.Lawful.{pages_lawful};
@@ -10,7 +11,7 @@ ghost use Rattle.web.specs.Meaning.{absent, broken, listed, triples};
 use crate::cause::PageCause;
 use crate::pages::{Pages, TooLong};
 use crate::scan::{Seen, scan};
-use lines::{Line, Stated, run_before, statement};
+use lines::{Stated, run_before};
 use terms::{Kind, Unwritten, is_iri};
 use web::{Web, Written, give};
 
@@ -34,7 +35,7 @@ impl<'a> Pages<'a> {
 
     // What the file holds at an IRI.
     fn seen(&self, iri: &[u8], place: usize) -> Result<Option<Seen<'a>>, PageCause>
-        ensures { MatchResult result (λ o. MatchOption o (web_meaning self.now.file.now iri.now ≡ absent) (λ s. Holds (web_meaning self.now.file.now iri.now) place s.count s.stating.now)) (λ e. web_meaning self.now.file.now iri.now ≡ broken e) }
+        ensures { MatchResult result (λ o. MatchOption o (web_meaning self.now.file.now iri.now ≡ absent) (λ s. Holds (web_meaning self.now.file.now iri.now) place s.count s.stated)) (λ e. web_meaning self.now.file.now iri.now ≡ broken e) }
     {
         if !is_iri(iri) {
             return Ok(None);
@@ -43,19 +44,10 @@ impl<'a> Pages<'a> {
     }
 
     // The triple at a place of the list that is found.
-    #[tactic(auto, using(crate::proofs::Telling::none_past))]
     fn stated(&self, iri: &[u8], place: usize) -> Option<Stated<'a>>
-        ensures { MatchOption result (listed place (triples (web_meaning self.now.file.now iri.now)) ≡ None) (λ s. listed place (triples (web_meaning self.now.file.now iri.now)) ≡ Some (triple_of s)) }
+        ensures { option_map triple_of result ≡ listed place (triples (web_meaning self.now.file.now iri.now)) }
     {
-        let seen = self.seen(iri, place).ok()??;
-        if place >= seen.count {
-            return None;
-        }
-        let line = Line {
-            bytes: seen.stating,
-            number: 0,
-        };
-        statement(line).ok()
+        self.seen(iri, place).ok()??.stated
     }
 }
 

@@ -2,48 +2,50 @@
 ghost use Rattle.std.specs.Prelude.{◌≡◌, [], Some, None, MatchOption, MatchResult};
 ghost use Rattle.web.specs.Meaning.{absent, broken};
 ghost use Rattle.lines.specs.Lines.{lines as lines_of};
-ghost use Rattle.pages.specs.Pages.{first_fault, lines_on, page_at};
+ghost use Rattle.lines.specs.Readings.{opening as opened_by};
+ghost use Rattle.pages.specs.Pages.{first_fault, is_page, lines_on, page_at};
 ghost use Rattle.pages.specs.Steps.{Holds, Opened, Passed};
 
 use crate::cause::{Fault, PageCause};
-use lines::{Lines, Saying, opening, said};
+use lines::{Line, Lines, Saying, Stated, opening, said};
 
-// How many triples a page states, the line that states the one at a place, and the lines behind.
+// How many triples a page states, the one at a place, and the lines behind.
 #[derive(Drop)]
 pub struct Seen<'a> {
     pub count: usize,
-    pub stating: &'a [u8],
+    pub stated: Option<Stated<'a>>,
     pub behind: Lines<'a>,
 }
 
-// Passes lines until one opens the page of an address. The lines behind are what is wanted, so the cursor is asked line by line.
+// Whether a line opens the page of an address.
+fn opens(line: Line, address: &[u8]) -> bool
+    ensures { result ≡ is_page address.now (opened_by line.entry.bytes.now) }
+{
+    opening(line).is_ok_and(|opened| opened == address)
+}
+
+// Passes lines until one opens the page of an address. The lines behind are what is wanted.
 fn find<'a>(from: Lines<'a>, address: &[u8]) -> Option<Lines<'a>>
     ensures { MatchOption result (lines_on address.now from.entry.passed None (lines_of from.entry.rest.now) ≡ []) (λ l. Opened address.now from.entry.passed from.entry.rest.now l.passed l.rest.now) }
 {
     let mut lines = from;
-    while let Some(line) = lines.next() {
-        if let Ok(opened) = opening(line) {
-            if opened == address {
-                return Some(lines);
-            }
-        }
-    }
-    None
+    lines.any(|line| opens(line, address)).then_some(lines)
 }
 
-// Passes the lines of a page that is open, until another page is opened. The cursor is asked by `next`, since it is handed on.
+// Passes the lines of a page that is open, until another page is opened. Tried as a `for` over `by_ref`: the `next` of a `&mut` doesn't promise that it keeps
+// its reference, so a proof knows nothing of the lines behind the loop, which are wanted.
 fn page<'a>(from: Lines<'a>, address: &[u8], place: usize) -> Result<Seen<'a>, PageCause>
-    ensures { MatchResult result (λ s. Passed address.now from.entry.passed from.entry.rest.now place s.count s.stating.now None s.behind.passed s.behind.rest.now) (λ e. first_fault (lines_on address.now from.entry.passed (Some address.now) (lines_of from.entry.rest.now)) ≡ Some e) }
+    ensures { MatchResult result (λ s. Passed address.now from.entry.passed from.entry.rest.now place s.count s.stated None s.behind.passed s.behind.rest.now) (λ e. first_fault (lines_on address.now from.entry.passed (Some address.now) (lines_of from.entry.rest.now)) ≡ Some e) }
 {
     let mut behind = from;
     let mut count = 0;
-    let mut stating = from.rest;
+    let mut stated = None;
     while let Some(line) = behind.next() {
         match said(line)? {
             Saying::Nothing => {}
-            Saying::States(_) => {
+            Saying::States(triple) => {
                 if count == place {
-                    stating = line.bytes;
+                    stated = Some(triple);
                 }
                 count += 1;
             }
@@ -60,14 +62,14 @@ fn page<'a>(from: Lines<'a>, address: &[u8], place: usize) -> Result<Seen<'a>, P
     }
     Ok(Seen {
         count,
-        stating,
+        stated,
         behind,
     })
 }
 
 // What the page of an address holds. Every line is passed once.
 pub fn scan<'a>(file: &'a [u8], address: &[u8], place: usize) -> Result<Option<Seen<'a>>, PageCause>
-    ensures { MatchResult result (λ o. MatchOption o (page_at file.now address.now ≡ absent) (λ s. Holds (page_at file.now address.now) place s.count s.stating.now)) (λ e. page_at file.now address.now ≡ broken e) }
+    ensures { MatchResult result (λ o. MatchOption o (page_at file.now address.now ≡ absent) (λ s. Holds (page_at file.now address.now) place s.count s.stated)) (λ e. page_at file.now address.now ≡ broken e) }
 {
     let start = Lines {
         rest: file,
