@@ -3,46 +3,28 @@
 
 use anyhow::anyhow;
 use corpus_lines::{answer_lines, unhex};
-use pages::Pages;
+use pages::{Pages, TooLong};
 use std::alloc::{AllocError, Global};
 use telling::write_web;
 use web::Pair;
 
-// A file as a Web. Of one that is refused the number is written, behind some words.
-fn open<'a>(
-    heap: Global,
-    file: &'a [u8],
-    words: &str,
-    out: &mut Vec<u8>,
-) -> Result<Option<Pages<'a>>, AllocError> {
-    match Pages::new(file) {
-        Ok(pages) => Ok(Some(pages)),
-        Err(refused) => {
-            let line = format!(in heap; "{words}refused {}", refused.number())?;
-            out.extend_from_slice(line.as_bytes())?;
-            Ok(None)
-        }
-    }
+// The number by which a file is refused, behind some words.
+fn write_refused(words: &str, refused: TooLong, out: &mut Vec<u8>) -> Result<(), AllocError> {
+    let line = format!(in *out.allocator(); "{words}refused {}", refused.number())?;
+    out.extend_from_slice(line.as_bytes())
 }
 
 // What the first file answers alone, and with the second behind it.
-fn answer(
-    heap: Global,
-    first: &[u8],
-    second: &[u8],
-    iri: &[u8],
-    out: &mut Vec<u8>,
-) -> anyhow::Result<()> {
-    let Some(first) = open(heap, first, "", out)? else {
-        return Ok(());
-    };
-    let Some(second) = open(heap, second, "then ", out)? else {
-        return Ok(());
-    };
-    write_web(heap, &first, iri, out)?;
-    out.extend_from_slice(b" | ")?;
-    write_web(heap, &Pair { first, second }, iri, out)?;
-    Ok(())
+fn answer(first: &[u8], second: &[u8], iri: &[u8], out: &mut Vec<u8>) -> Result<(), AllocError> {
+    match (Pages::new(first), Pages::new(second)) {
+        (Err(refused), _) => write_refused("", refused, out),
+        (Ok(_), Err(refused)) => write_refused("then ", refused, out),
+        (Ok(first), Ok(second)) => {
+            write_web(&first, iri, out)?;
+            out.extend_from_slice(b" | ")?;
+            write_web(&Pair { first, second }, iri, out)
+        }
+    }
 }
 
 // The bytes that a word spells in hex. A lone `-` is no bytes.
@@ -66,13 +48,8 @@ fn run(rt: &HostRuntime) -> anyhow::Result<()> {
         let first = bytes(heap, one)?;
         let second = bytes(heap, two)?;
         let iri = bytes(heap, three)?;
-        answer(
-            heap,
-            first.as_slice(),
-            second.as_slice(),
-            iri.as_slice(),
-            out,
-        )
+        answer(first.as_slice(), second.as_slice(), iri.as_slice(), out)?;
+        Ok(())
     })
 }
 

@@ -23,7 +23,7 @@ fn longest_file(rt: HostRuntime) -> Result<(), Fail> {
     fill(65536, &mut file)?;
     match Pages::new(file.as_slice()) {
         Err(_) => return Err(Fail::new("a file at the limit is refused")),
-        Ok(pages) => write_web(heap, &pages, b"m:1", &mut out)?,
+        Ok(pages) => write_web(&pages, b"m:1", &mut out)?,
     }
     assert_eq!(rt;
         out.as_slice(),
@@ -90,7 +90,7 @@ fn pairs(rt: HostRuntime) -> Result<(), Fail> {
     let pair = Pair { first, second };
     for (iri, line) in PAIRED.iter() {
         out.clear();
-        write_web(heap, &pair, iri, &mut out)?;
+        write_web(&pair, iri, &mut out)?;
         assert_eq!(rt; out.as_slice(), *line);
     }
     Ok(())

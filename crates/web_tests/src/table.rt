@@ -102,7 +102,7 @@ fn one_file(rt: HostRuntime) -> Result<(), Fail> {
     };
     for (iri, line) in ROWS.iter() {
         out.clear();
-        write_web(heap, &pages, iri, &mut out)?;
+        write_web(&pages, iri, &mut out)?;
         assert_eq!(rt; out.as_slice(), *line);
     }
     Ok(())
