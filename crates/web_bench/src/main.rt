@@ -13,38 +13,29 @@ struct Sums {
     bytes: u64,
 }
 
-fn total(bytes: &[u8], start: u64) -> u64 {
-    let mut sum = start;
-    for b in bytes {
-        sum = sum.wrapping_add(u64::from(*b));
-    }
-    sum
-}
-
-// The buffer is as long as a term may be.
-fn read_one<W: Web>(web: &W, iri: &[u8], place: usize, part: u8, sums: Sums) -> Sums {
-    let mut sums = sums;
-    let mut buffer = [0; 128];
-    if let Ok(written) = web.read(iri, place, part, &mut buffer) {
-        sums.terms = sums.terms.wrapping_add(1);
-        if let Some(bytes) = buffer.get(0..written.length) {
-            sums.bytes = total(bytes, sums.bytes);
+impl Sums {
+    // The buffer is as long as a term may be.
+    fn read_one<W: Web>(&mut self, web: &W, iri: &[u8], place: usize, part: u8) {
+        let mut buffer = [0; 128];
+        if let Ok(written) = web.read(iri, place, part, &mut buffer) {
+            self.terms = self.terms.wrapping_add(1);
+            self.bytes = buffer
+                .iter()
+                .take(written.length)
+                .fold(self.bytes, |sum, b| sum.wrapping_add(u64::from(*b)));
         }
     }
-    sums
-}
 
-fn read_all<W: Web>(web: &W, iri: &[u8], sums: Sums) -> Sums {
-    let mut sums = sums;
-    sums.lookups = sums.lookups.wrapping_add(1);
-    if let Ok(Some(count)) = web.lookup(iri) {
-        for place in 0..count {
-            for part in 1..4 {
-                sums = read_one(web, iri, place, part, sums);
+    fn read_all<W: Web>(&mut self, web: &W, iri: &[u8]) {
+        self.lookups = self.lookups.wrapping_add(1);
+        if let Ok(Some(count)) = web.lookup(iri) {
+            for place in 0..count {
+                for part in 1..4 {
+                    self.read_one(web, iri, place, part);
+                }
             }
         }
     }
-    sums
 }
 
 fn every_page(file: &[u8]) -> Sums {
@@ -60,7 +51,7 @@ fn every_page(file: &[u8]) -> Sums {
         };
         for line in lines {
             if let Ok(address) = opening(line) {
-                sums = read_all(&pages, address, sums);
+                sums.read_all(&pages, address);
             }
         }
     }
