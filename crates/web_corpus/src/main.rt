@@ -32,10 +32,7 @@ fn bytes(heap: Global, word: &str) -> anyhow::Result<Vec<u8>> {
     if word == "-" {
         return Ok(Vec::new(heap));
     }
-    match unhex(heap, word.as_bytes())? {
-        Some(bytes) => Ok(bytes),
-        None => Err(anyhow!("a word is not in hex")),
-    }
+    unhex(heap, word.as_bytes())?.ok_or_else(|| anyhow!("a word is not in hex"))
 }
 
 fn run(rt: &HostRuntime) -> anyhow::Result<()> {
