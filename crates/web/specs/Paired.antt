@@ -1,20 +1,19 @@
 -- The pair keeps the laws, since either Web keeps them.
 use Rattle.std.specs.Prelude.{◌≡◌, ℕ, false, List, refl}
-use Rattle.std.proofs.Common.{arith}
 use Rattle.terms.specs.Lawful.{is_iri}
 use Rattle.web.specs.Meaning.{Looked, found, absent, broken}
 use Rattle.web.specs.Laws.{Lawful}
 use Rattle.web.specs.Pairs.{both, as_second}
 
 second_absent : {A B : Type 0} (l : Looked B) → l ≡ absent → as_second {A = A} l ≡ absent
-second_absent (found ts) e = let z : ◌≡◌ {A = ℕ} 0 1 = cc in absurd (omega arith)
+second_absent (found ts) e = absurd cc
 second_absent absent e = refl
-second_absent (broken c) e = let z : ◌≡◌ {A = ℕ} 0 1 = cc in absurd (omega arith)
+second_absent (broken c) e = absurd cc
 
 both_absent : {A B : Type 0} (k : Looked A) (l : Looked B) → k ≡ absent → l ≡ absent → both k l ≡ absent
-both_absent (found ts) l e f = let z : ◌≡◌ {A = ℕ} 0 1 = cc in absurd (omega arith)
+both_absent (found ts) l e f = absurd cc
 both_absent {A} absent l e f = second_absent {A = A} l f
-both_absent (broken c) l e f = let z : ◌≡◌ {A = ℕ} 0 1 = cc in absurd (omega arith)
+both_absent (broken c) l e f = absurd cc
 
 -- the second's triples are the pair's
 second_lawful : {A B : Type 0} (iri : List ℕ) (l : Looked B) → (is_iri iri ≡ false → as_second {A = A} l ≡ absent) → Lawful iri l → Lawful iri (as_second {A = A} l)
