@@ -2,7 +2,7 @@
 use Rattle.std.proofs.Common.{◌≡◌, ℕ, suc, ◌+◌, ◌<◌, Bool, true, false, cond, not, eqb, List, [], ◌∷◌, ◌++◌, length, Some, None, Option, sym, refl, ap, ◌∙◌, subst, ap₂, inl, inr, append_assoc, add-zero, arith}
 use Rattle.std.proofs.lemmas.List.{append-nil, length-append}
 use Rattle.std.proofs.lemmas.Slice.Eq.{bytes_eq-Decides}
-use Rattle.std.proofs.lemmas.Bool.{true≢false}
+use Rattle.std.proofs.lemmas.Bool.Decides.{not_from_Decides}
 use Rattle.std.specs.Str.{bytes_eq}
 use Rattle.terms.specs.Lawful.{is_iri}
 use Rattle.terms.proofs.Runs.{run_more}
@@ -46,7 +46,7 @@ after_opening p (b ∷ bs) = ap (page_after p) (says_cons b bs) ∙ go (opening 
 -- ---- only its lines
 
 is_page_lem : (a : List ℕ) (q : Option (List ℕ)) → is_page a q ≡ true → q ≡ Some a
-is_page_lem a None e = let z : ◌≡◌ {A = ℕ} 0 1 = cc in absurd (omega arith)
+is_page_lem a None e = absurd cc
 is_page_lem a (Some b) e = ap Some ((bytes_eq-Decides b a).0 e)
 
 same_on : (a : List ℕ) (n : ℕ) (p : Option (List ℕ)) (ls ms : List (List ℕ)) → SameFor a p ls ms → lines_on a n p ls ≡ lines_on a n p ms
@@ -165,7 +165,7 @@ first_opens a n (l ∷ ls) = go (opening l) refl (first_opens a (n + 1) ls)
     named : (b : List ℕ) (t : Bool) → bytes_eq b a ≡ t → opening l ≡ Some b → FirstOpens a (lines_on a (n + 1) None ls) → FirstOpens a (lines_on a n None (l ∷ ls))
     named b true e o h = subst (FirstOpens a) (sym (on_opens a n None l b ls (says_opening l b o) ((bytes_eq-Decides b a).0 e))) refl
     named b false e o h =
-        subst (FirstOpens a) (sym (on_other a n None l b ls (says_opening l b o) (λ s. true≢false (sym ((bytes_eq-Decides b a).1 s) ∙ e)))) h
+        subst (FirstOpens a) (sym (on_other a n None l b ls (says_opening l b o) (not_from_Decides (bytes_eq b a) (bytes_eq-Decides b a) e))) h
 
     go : (o : Option (List ℕ)) → opening l ≡ o → FirstOpens a (lines_on a (n + 1) None ls) → FirstOpens a (lines_on a n None (l ∷ ls))
     go None e h = subst (FirstOpens a) (sym (off_pass a n l ls e)) h

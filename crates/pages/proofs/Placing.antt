@@ -1,5 +1,6 @@
 -- Which lines are on a page, one line on.
-use Rattle.std.proofs.Common.{◌≡◌, ℕ, ◌+◌, Bool, true, false, cond, List, [], ◌∷◌, Some, None, Option, sym, refl, ap, ◌∙◌}
+use Rattle.std.proofs.Common.{◌≡◌, ℕ, ◌+◌, true, false, cond, List, [], ◌∷◌, Some, None, Option, sym, refl, ap, ◌∙◌}
+use Rattle.std.proofs.lemmas.Bool.{false_from_ne_true}
 use Rattle.std.proofs.lemmas.Slice.Eq.{bytes_eq-Decides}
 use Rattle.std.specs.Str.{bytes_eq}
 use Rattle.web.specs.Meaning.{Triple}
@@ -26,11 +27,7 @@ pub same_itself : (a : List ℕ) → bytes_eq a a ≡ true
 same_itself a = (bytes_eq-Decides a a).1 refl
 
 pub same_apart : (a b : List ℕ) → (b ≡ a → ⊥) → bytes_eq b a ≡ false
-same_apart a b f = go (bytes_eq b a) refl
-  where
-    go : (t : Bool) → bytes_eq b a ≡ t → bytes_eq b a ≡ false
-    go true e = absurd (f ((bytes_eq-Decides b a).0 e))
-    go false e = e
+same_apart a b f = false_from_ne_true (bytes_eq b a) (λ e. f ((bytes_eq-Decides b a).0 e))
 
 -- while another page is open it does not matter which
 pub on_any : (a : List ℕ) (n : ℕ) (p : Option (List ℕ)) (ls : List (List ℕ)) → is_page a p ≡ false → lines_on a n p ls ≡ lines_on a n None ls

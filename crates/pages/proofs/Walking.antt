@@ -14,9 +14,10 @@ use Rattle.pages.specs.Steps.{Opened, Passed}
 use Rattle.lines.proofs.Cutting.{lines_nil}
 use Rattle.std.proofs.lemmas.List.{append-nil, length-append}
 use Rattle.std.proofs.lemmas.Bool.{cases_eq}
-use Rattle.std.proofs.lemmas.Bool.{true≢false}
+use Rattle.std.proofs.lemmas.Bool.Decides.{not_from_Decides}
 use Rattle.std.proofs.lemmas.Slice.Eq.{bytes_eq-Decides}
 use Rattle.std.specs.Bool.{then_some}
+use Rattle.std.specs.Str.{bytes_eq}
 use Rattle.std.specs.Iterator.{ActsAs, ChecksAny, Yields}
 use Rattle.std.specs.List.{FoldsTo}
 use Rattle.std.specs.Option.{option_map, MatchOption}
@@ -27,33 +28,33 @@ use Rattle.pages.proofs.Placing.{on_nil, off_pass, on_other, on_opens, on_stays,
 -- ---- to the next opening of a page
 
 -- from n0 lines before some bytes on the lines of the page are those from n lines before others on
-pub record Same (a : List ℕ) (n0 : ℕ) (bytes0 : List ℕ) (n : ℕ) (bytes : List ℕ) : Type 0 where
+record Same (a : List ℕ) (n0 : ℕ) (bytes0 : List ℕ) (n : ℕ) (bytes : List ℕ) : Type 0 where
   pub on : lines_on a n0 None (lines bytes0) ≡ lines_on a n None (lines bytes)
   pub bound : n + length bytes ≤ n0 + length bytes0
 
-pub same_start : (a : List ℕ) (n : ℕ) (bytes : List ℕ) → Same a n bytes n bytes
+same_start : (a : List ℕ) (n : ℕ) (bytes : List ℕ) → Same a n bytes n bytes
 same_start a n bytes = record { on = refl; bound = omega arith }
 
 module _ {a : List ℕ} {n0 : ℕ} {bytes0 : List ℕ} {n : ℕ} {bytes line : List ℕ} {k m : ℕ} {rest : List ℕ} (s : Same a n0 bytes0 n bytes) (t : Taken n bytes line k m rest) where
   bounded : m + length rest ≤ n0 + length bytes0
   bounded = omega (arith, s.bound, t.next, t.less)
 
-  pub find_here : is_page a (opening line) ≡ true → Opened a n0 bytes0 m rest
+  find_here : is_page a (opening line) ≡ true → Opened a n0 bytes0 m rest
   find_here e = go (opening line) refl e
     where
       go : (o : Option (List ℕ)) → opening line ≡ o → is_page a o ≡ true → Opened a n0 bytes0 m rest
-      go None o e = absurd (true≢false (sym e))
+      go None o e = absurd cc
       go (Some b) o e = record {
         goes = s.on ∙ ap (lines_on a n None) t.first ∙ on_opens a n None line b (lines rest) (says_opening line b o) ((bytes_eq-Decides b a).0 e) ∙ ap (λ i. numbered i (opens a) ∷ lines_on a i (Some a) (lines rest)) (sym t.next);
         bound = bounded;
       }
 
-  pub find_on : is_page a (opening line) ≡ false → Same a n0 bytes0 m rest
+  find_on : is_page a (opening line) ≡ false → Same a n0 bytes0 m rest
   find_on e = record { on = s.on ∙ ap (lines_on a n None) t.first ∙ go (opening line) refl e ∙ ap (λ i. lines_on a i None (lines rest)) (sym t.next); bound = bounded }
     where
       go : (o : Option (List ℕ)) → opening line ≡ o → is_page a o ≡ false → lines_on a n None (line ∷ lines rest) ≡ lines_on a (n + 1) None (lines rest)
       go None o e = off_pass a n line (lines rest) o
-      go (Some b) o e = on_other a n None line b (lines rest) (says_opening line b o) (λ f. true≢false (sym ((bytes_eq-Decides b a).1 f) ∙ e))
+      go (Some b) o e = on_other a n None line b (lines rest) (says_opening line b o) (not_from_Decides (bytes_eq b a) (bytes_eq-Decides b a) e)
 
 find_none : {a : List ℕ} {n0 : ℕ} {bytes0 : List ℕ} {n : ℕ} {bytes : List ℕ} → Same a n0 bytes0 n bytes → bytes ≡ [] → lines_on a n0 None (lines bytes0) ≡ []
 find_none {a} {n = n} s e = s.on ∙ ap (λ b. lines_on a n None (lines b)) e ∙ ap (lines_on a n None) lines_nil ∙ on_nil a n None
@@ -89,7 +90,7 @@ fault_append (x ∷ p) q e = go (fault_of x.number x.what) e (fault_append p q)
   where
     go : (o : Option PageCause) → or_else o (first_fault p) ≡ None → (first_fault p ≡ None → first_fault (p ++ q) ≡ first_fault q) → or_else o (first_fault (p ++ q)) ≡ first_fault q
     go None e h = h e
-    go (Some c) e h = let z : ◌≡◌ {A = ℕ} 0 1 = cc in absurd (omega arith)
+    go (Some c) e h = absurd cc
 
 pub stated_append : (p q : List Numbered) → stated (p ++ q) ≡ stated p ++ stated q
 stated_append [] q = refl
@@ -134,8 +135,8 @@ module _ {a : List ℕ} {n0 : ℕ} {bytes0 : List ℕ} {place count : ℕ} {kept
         bound = omega (arith, p.bound, t.next, t.less);
       }
 
-  pub pass_states : (x : Stated) (next : Option Stated) → says line ≡ states (triple_of x) → (count ≡ place → next ≡ Some x) → ((count ≡ place → ⊥) → next ≡ kept) → Passed a n0 bytes0 place (count + 1) next (Some a) m rest
-  pass_states x next e here there =
+  pub pass_states : {x : Stated} {next : Option Stated} → says line ≡ states (triple_of x) → (count ≡ place → next ≡ Some x) → ((count ≡ place → ⊥) → next ≡ kept) → Passed a n0 bytes0 place (count + 1) next (Some a) m rest
+  pass_states {x} {next} e here there =
       let y : Triple = triple_of x in
       let more : stated (p.page ++ numbered m (states y) ∷ []) ≡ stated p.page ++ y ∷ [] = stated_append p.page (numbered m (states y) ∷ []) in
       record {
@@ -152,10 +153,10 @@ module _ {a : List ℕ} {n0 : ℕ} {bytes0 : List ℕ} {place count : ℕ} {kept
       keep (inl h) = ap (option_map triple_of) (here h) ∙ sym (ap (λ i. listed i (stated p.page ++ triple_of x ∷ [])) (sym h ∙ p.counted) ∙ listed_last (stated p.page) (triple_of x))
       keep (inr f) = ap (option_map triple_of) (there f) ∙ p.keeps ∙ sym (listed_other place (stated p.page) (triple_of x) (λ e. f (p.counted ∙ sym e)))
 
-  pub pass_other : (b : List ℕ) → says line ≡ opens b → (b ≡ a → ⊥) → Passed a n0 bytes0 place count kept None m rest
-  pass_other b e f = record {
+  pub pass_other : {b : List ℕ} → says line ≡ opens b → bytes_eq b a ≡ false → Passed a n0 bytes0 place count kept None m rest
+  pass_other {b} e f = record {
     page = p.page;
-    goes = p.goes ∙ ap (λ q. p.page ++ q) (ap (lines_on a n (Some a)) t.first ∙ on_other a n (Some a) line b (lines rest) e f ∙ ap (λ i. lines_on a i None (lines rest)) (sym t.next));
+    goes = p.goes ∙ ap (λ q. p.page ++ q) (ap (lines_on a n (Some a)) t.first ∙ on_other a n (Some a) line b (lines rest) e (not_from_Decides (bytes_eq b a) (bytes_eq-Decides b a) f) ∙ ap (λ i. lines_on a i None (lines rest)) (sym t.next));
     good = p.good;
     counted = p.counted;
     keeps = p.keeps;
@@ -163,9 +164,9 @@ module _ {a : List ℕ} {n0 : ℕ} {bytes0 : List ℕ} {place count : ℕ} {kept
     bound = omega (arith, p.bound, t.next, t.less);
   }
 
-  pub pass_again : (b : List ℕ) → says line ≡ opens b → b ≡ a → first_fault (lines_on a n0 (Some a) (lines bytes0)) ≡ Some (cause OpenedAgain k)
-  pass_again b e f =
-      ap first_fault (p.goes ∙ ap (λ q. p.page ++ q) (ap (lines_on a n (Some a)) t.first ∙ on_opens a n (Some a) line b (lines rest) e f))
+  pub pass_again : {b : List ℕ} → says line ≡ opens b → bytes_eq b a ≡ true → first_fault (lines_on a n0 (Some a) (lines bytes0)) ≡ Some (cause OpenedAgain k)
+  pass_again {b} e f =
+      ap first_fault (p.goes ∙ ap (λ q. p.page ++ q) (ap (lines_on a n (Some a)) t.first ∙ on_opens a n (Some a) line b (lines rest) e ((bytes_eq-Decides b a).0 f)))
       ∙ fault_append p.page (numbered (n + 1) (opens a) ∷ lines_on a (n + 1) (Some a) (lines rest)) p.good ∙ ap (λ i. Some (cause OpenedAgain i)) (sym t.count)
 
   pub pass_bad : says line ≡ unreadable → first_fault (lines_on a n0 (Some a) (lines bytes0)) ≡ Some (cause Unreadable k)
@@ -187,8 +188,8 @@ pass_end {a} {n = n} {bytes = bytes} p e = record {
     none : (o : Option (List ℕ)) → lines_on a n o (lines bytes) ≡ []
     none o = ap (λ b. lines_on a n o (lines b)) e ∙ ap (lines_on a n o) lines_nil ∙ on_nil a n o
 
-pub pass_start : (a : List ℕ) (n : ℕ) (bytes : List ℕ) (place : ℕ) → Passed a n bytes place 0 None (Some a) n bytes
-pass_start a n bytes place = record {
+pub pass_start : {a : List ℕ} {n : ℕ} {bytes : List ℕ} {place : ℕ} → Passed a n bytes place 0 None (Some a) n bytes
+pass_start = record {
   page = [];
   goes = refl;
   good = refl;

@@ -1,14 +1,15 @@
 -- The meaning of a page file keeps the laws of every Web. That a list has at most 65,535 triples follows from the length of the file: each line has a byte of
 -- its own (its LF, or its last byte), and the page's opening states nothing. The trait asks for these proofs, so they stand here.
-use Rattle.std.specs.Prelude.{◌≡◌, ℕ, suc, ◌+◌, ◌≤◌, Bool, true, false, cond, ◌&&◌, List, [], ◌∷◌, length, Some, None, Option, ◌==◌, nat_le, refl}
+use Rattle.std.specs.Prelude.{◌≡◌, ℕ, suc, ◌+◌, ◌≤◌, Bool, true, false, cond, List, [], ◌∷◌, length, Some, None, Option, ◌==◌, nat_le, refl}
 use Rattle.std.proofs.Common.{arith, leb-true}
+use Rattle.std.proofs.lemmas.Bool.{and_from, and_parts}
 use Rattle.terms.specs.Lawful.{is_iri}
 use Rattle.web.specs.Laws.{Lawful, lawful_triple, lawful_triples}
 use Rattle.web.specs.Meaning.{Triple, absent, triples}
 use Rattle.pages.specs.declared.cause.PageCause.{PageCause}
 use Rattle.lines.specs.Lines.{lines, onto}
 use Rattle.lines.specs.Readings.{Said, nothing, opens, states, unreadable, says, statement, opening, or_opens, or_states}
-use Rattle.lines.specs.Parts.{and_true, statement_lawful}
+use Rattle.lines.specs.Parts.{statement_lawful}
 use Rattle.pages.specs.Pages.{Numbered, numbered, page_after, is_page, lines_on, with_stated, stated, first_fault, judged_by, page_of, address, page_at, page_meaning, web_meaning}
 
 -- ---- how many lines and triples
@@ -62,7 +63,7 @@ page_at_few file a h = page_few (lines_on a 0 None (lines file)) 65535 (omega (a
 
 said_lawful : (o : Option (List ℕ)) (s : Option Triple) (ts : List Triple) → ((t : Triple) → s ≡ Some t → lawful_triple t ≡ true) → lawful_triples ts ≡ true → lawful_triples (with_stated (or_opens o (or_states s)) ts) ≡ true
 said_lawful None None ts f h = h
-said_lawful None (Some t) ts f h = and_true (lawful_triple t) (lawful_triples ts) (f t refl) h
+said_lawful None (Some t) ts f h = and_from _ _ (f t refl) h
 said_lawful (Some a) s ts f h = h
 
 says_lawful : (l : List ℕ) (ts : List Triple) → lawful_triples ts ≡ true → lawful_triples (with_stated (says l) ts) ≡ true
@@ -88,14 +89,10 @@ judged_lawful (Some c) ts h = refl
 rest_lawful : (l : Numbered) (ls : List Numbered) → lawful_triples (stated (l ∷ ls)) ≡ true → lawful_triples (stated ls) ≡ true
 rest_lawful l ls = go l.what
   where
-    and_right : (a b : Bool) → (a && b) ≡ true → b ≡ true
-    and_right true b e = e
-    and_right false b e = let z : ◌≡◌ {A = ℕ} 0 1 = cc in absurd (omega arith)
-
     go : (s : Said) → lawful_triples (with_stated s (stated ls)) ≡ true → lawful_triples (stated ls) ≡ true
     go nothing h = h
     go (opens a) h = h
-    go (states t) h = and_right (lawful_triple t) (lawful_triples (stated ls)) h
+    go (states t) h = (and_parts _ _ h).1
     go unreadable h = h
 
 page_lawful : (ls : List Numbered) → lawful_triples (stated ls) ≡ true → lawful_triples (triples (page_of ls)) ≡ true
@@ -110,7 +107,7 @@ pages_lawful file iri = within (nat_le (length file) 65536) refl
 
     led : (t : Bool) → is_iri iri ≡ t → length file ≤ 65536 → Lawful iri (cond t (page_at file (address iri)) absent)
     led true e short = record {
-      no_iri = λ f. let z : ◌≡◌ {A = ℕ} 0 1 = cc in absurd (omega arith);
+      no_iri = λ f. absurd cc;
       few = page_at_few file (address iri) short;
       terms = page_lawful (lines_on (address iri) 0 None (lines file)) (on_lawful (address iri) 0 None (lines file));
     }

@@ -68,6 +68,7 @@ fn page<'a>(from: Lines<'a>, address: &[u8], place: usize) -> Result<Seen<'a>, P
 }
 
 // What the page of an address holds. Every line is passed once.
+#[tactic(auto, using(crate::proofs::Seeing::see_again))]
 pub fn scan<'a>(file: &'a [u8], address: &[u8], place: usize) -> Result<Option<Seen<'a>>, PageCause>
     ensures { MatchResult result (λ o. MatchOption o (page_at file.now address.now ≡ absent) (λ s. Holds (page_at file.now address.now) place s.count s.stated)) (λ e. page_at file.now address.now ≡ broken e) }
 {

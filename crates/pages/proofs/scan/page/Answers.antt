@@ -1,8 +1,5 @@
-use Rattle.std.proofs.Common.{Some, None, sym, ap, ◌∙◌, subst, arith}
-use Rattle.std.proofs.lemmas.Slice.Eq.{slice_eq-Decides}
+use Rattle.std.proofs.Common.{Some, None, sym, ap, ◌∙◌, subst}
 use Rattle.std.proofs.lemmas.Result.{err_from_is_err_and}
-use Rattle.std.proofs.lemmas.Bool.{true≢false}
-use Rattle.std.proofs.lemmas.Bool.Decides.{Decides-eqb}
 use Rattle.pages.specs.declared.cause.Fault.TheVariants.{Unreadable}
 use Rattle.pages.specs.Pages.{cause}
 use Rattle.lines.specs.declared.cursor.Lines.{Lines}
@@ -13,7 +10,7 @@ use Rattle.pages.proofs.scan.page.Goals as goal
 use Rattle.pages.proofs.scan.page.Goals.{then-count-place, else-count-place, in-Some+in_ok-said+in-Opens+else-eq, in_default}
 
 pub loop-line-init : goal.loop-line-init
-loop-line-init c = pass_start c.args.address.now c.args.from.passed c.args.from.rest.now c.args.place
+loop-line-init c = pass_start
 
 pub returns-in_err-said : goal.returns-in_err-said
 returns-in_err-said c =
@@ -23,26 +20,19 @@ returns-in_err-said c =
 pub loop-line-preserved-in-Nothing : goal.loop-line-preserved-in-Nothing
 loop-line-preserved-in-Nothing c = pass_nothing c.loop-line.invariant c.in-Some.ensures.steps (c.in_ok-said.ensures ∙ ap said_of c.in-Nothing.is)
 
-pub overflow_add-count : goal.overflow_add-count
-overflow_add-count c = omega (arith, c.loop-line.invariant.few, c.loop-line.invariant.bound, c.in-Some.ensures.steps.less)
-
 pub loop-line-preserved : goal.loop-line-preserved
 loop-line-preserved c =
-    pass_states c.loop-line.invariant c.in-Some.ensures.steps c.in-States.triple c.if-count-place.stated (c.in_ok-said.ensures ∙ ap said_of c.in-States.is)
+    pass_states c.loop-line.invariant c.in-Some.ensures.steps (c.in_ok-said.ensures ∙ ap said_of c.in-States.is)
     (λ e. elim c.if-count-place.branch [ then-count-place w ↦ w.stated-is | else-count-place w ↦ absurd (w.if-count-place.false e) ])
     (λ f. elim c.if-count-place.branch [ then-count-place w ↦ absurd (f w.if-count-place.true) | else-count-place w ↦ w.stated-is ])
 
 pub returns-then-eq : goal.returns-then-eq
-returns-then-eq c =
-    pass_again c.loop-line.invariant c.in-Some.ensures.steps c.in-Opens.opened.now (c.in_ok-said.ensures ∙ ap said_of c.in-Opens.is)
-    ((slice_eq-Decides Decides-eqb c.in-Opens.opened.now c.args.address.now c.eq.result c.eq.ensures).0 c.if-eq.true)
+returns-then-eq c = pass_again c.loop-line.invariant c.in-Some.ensures.steps (c.in_ok-said.ensures ∙ ap said_of c.in-Opens.is) (sym c.if-eq.ensures)
 
 pub returns : goal.returns
 returns c =
     elim c.match-next.branch [
-      | in-Some+in_ok-said+in-Opens+else-eq w ↦
-          pass_other c.loop-line.invariant w.in-Some.ensures.steps w.in-Opens.opened.now (w.in_ok-said.ensures ∙ ap said_of w.in-Opens.is)
-          (λ e. true≢false (sym ((slice_eq-Decides Decides-eqb w.in-Opens.opened.now c.args.address.now w.eq.result w.eq.ensures).1 e) ∙ w.if-eq.false))
+      | in-Some+in_ok-said+in-Opens+else-eq w ↦ pass_other c.loop-line.invariant w.in-Some.ensures.steps (w.in_ok-said.ensures ∙ ap said_of w.in-Opens.is) (sym w.if-eq.ensures)
       | in_default w ↦
           subst (λ (l : Lines). Passed c.args.address.now c.args.from.passed c.args.from.rest.now c.args.place c.loop-line.count c.loop-line.stated None l.passed l.rest.now) (sym w.in_default.ensures.steps.1)
           (pass_end c.loop-line.invariant w.in_default.ensures.steps.0)
