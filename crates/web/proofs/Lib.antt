@@ -1,2 +1,1 @@
-pub mod Agreeing
 pub mod Fitting
