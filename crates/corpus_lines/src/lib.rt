@@ -6,5 +6,5 @@ mod lines;
 mod tests;
 mod words;
 
-pub use lines::answer_lines;
-pub use words::unhex;
+pub use lines::{answer_hex_lines, answer_lines};
+pub use words::{bytes_of, unhex};

@@ -2,6 +2,7 @@
 ghost use Rattle.std.specs.Prelude.{◌≡◌, ◌≢◌, ℕ, List, IfOk, MatchOption};
 ghost use Rattle.hex.specs.Hex.{IsBytes, encode_lower};
 
+use anyhow::anyhow;
 use hex::FromHexError;
 use std::alloc::Global;
 
@@ -21,5 +22,15 @@ pub fn unhex(heap: Global, word: &[u8]) -> Result<Option<Vec<u8>>, FromHexError>
         Ok(Some(bytes))
     } else {
         Ok(None)
+    }
+}
+
+// The bytes that a word spells, or an error of this message.
+pub fn bytes_of(heap: Global, word: &[u8], message: &'static str) -> anyhow::Result<Vec<u8>>
+    ensures { IfOk result (λ bytes. word.now ≡ encode_lower bytes.items) }
+{
+    match unhex(heap, word)? {
+        Some(bytes) => Ok(bytes),
+        None => Err(anyhow!("{message}")),
     }
 }

@@ -1,8 +1,7 @@
 // Prints what reading and judging each text of a corpus gives. Standard input has a text to a line, in hex.
 #![tactic(auto)]
 
-use anyhow::anyhow;
-use corpus_lines::{answer_lines, unhex};
+use corpus_lines::answer_hex_lines;
 use judging::Judged;
 use outline::{write_question, write_refusal, write_verdict};
 use question::Draft;
@@ -29,11 +28,8 @@ fn run(rt: &HostRuntime) -> anyhow::Result<()> {
     let heap = rt.alloc();
     let mut draft = Draft::new(heap)?;
     let mut judged = Judged::new(heap)?;
-    answer_lines(heap, rt.stdin(), &mut rt.stdout(), |line, out| {
-        let Some(text) = unhex(heap, line.as_bytes())? else {
-            return Err(anyhow!("a line is not in hex"));
-        };
-        answer(&mut draft, &mut judged, text.as_slice(), out)?;
+    answer_hex_lines(heap, rt.stdin(), &mut rt.stdout(), |text, out| {
+        answer(&mut draft, &mut judged, text, out)?;
         Ok(())
     })
 }
