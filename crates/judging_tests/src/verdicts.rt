@@ -1,5 +1,6 @@
 use judging::Judged;
 use question::Draft;
+use std::alloc::{AllocError, Global};
 use std::test::Fail;
 
 // Questions that are bounded, and how many of their variables are sure.
@@ -135,34 +136,43 @@ static UNBOUNDED: [&str; 45] = [
     "{?x<p>?y.{}{}{}{}{}{}{}{}{}{}{}{}{}{}{}{}{}{}{}{}{}{}{}{}{}{}{}{}{}{}}",
 ];
 
-fn verdict(draft: &mut Draft, judged: &mut Judged, text: &str) -> Result<Option<u32>, Fail> {
-    match draft.read(text.as_bytes()) {
-        Ok(()) => Ok(judged.judge(draft).ok()),
-        Err(_) => Err(Fail::new("it is no question")),
+// What judging a text tells: how many variables are sure, or nothing where the question is not bounded.
+#[derive(Drop)]
+struct Bench {
+    draft: Draft,
+    judged: Judged,
+}
+
+impl Bench {
+    fn new(heap: Global) -> Result<Bench, AllocError> {
+        Ok(Bench {
+            draft: Draft::new(heap)?,
+            judged: Judged::new(heap)?,
+        })
+    }
+
+    fn verdict(&mut self, text: &str) -> Result<Option<u32>, Fail> {
+        match self.draft.read(text.as_bytes()) {
+            Ok(()) => Ok(self.judged.judge(&self.draft).ok()),
+            Err(_) => Err(Fail::new("it is no question")),
+        }
     }
 }
 
 #[test]
 fn bounded(rt: HostRuntime) -> Result<(), Fail> {
-    let mut draft = Draft::new(rt.alloc())?;
-    let mut judged = Judged::new(rt.alloc())?;
+    let mut bench = Bench::new(rt.alloc())?;
     for (text, count) in BOUNDED.iter() {
-        assert_eq!(rt;
-            verdict(&mut draft, &mut judged, text)?,
-            Some(*count),
-            "{}",
-            *text
-        );
+        assert_eq!(rt; bench.verdict(text)?, Some(*count), "{}", *text);
     }
     Ok(())
 }
 
 #[test]
 fn unbounded(rt: HostRuntime) -> Result<(), Fail> {
-    let mut draft = Draft::new(rt.alloc())?;
-    let mut judged = Judged::new(rt.alloc())?;
+    let mut bench = Bench::new(rt.alloc())?;
     for text in UNBOUNDED.iter() {
-        assert_eq!(rt; verdict(&mut draft, &mut judged, text)?, None, "{}", *text);
+        assert_eq!(rt; bench.verdict(text)?, None, "{}", *text);
     }
     Ok(())
 }
