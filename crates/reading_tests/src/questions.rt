@@ -1,5 +1,4 @@
-use crate::lines::check_line;
-use question::Draft;
+use crate::lines::Bench;
 use std::test::Fail;
 
 // A text, and the question that it asks.
@@ -114,18 +113,9 @@ static ROWS: [(&str, &str); 35] = [
 
 #[test]
 fn questions(rt: HostRuntime) -> Result<(), Fail> {
-    let heap = rt.alloc();
-    let mut draft = Draft::new(heap)?;
-    let mut out = Vec::new(heap);
+    let mut bench = Bench::new(&rt, rt.alloc())?;
     for (text, line) in ROWS.iter() {
-        check_line(
-            &rt,
-            &mut draft,
-            text.as_bytes(),
-            line.as_bytes(),
-            &mut out,
-            *text,
-        )?;
+        bench.check_line(text, line, text)?;
     }
     Ok(())
 }

@@ -1,6 +1,4 @@
-use crate::lines::{Repeat, check_line, spell};
-use outline::write_question;
-use question::Draft;
+use crate::lines::{Bench, Repeat, describe, spell};
 use std::process::Abort;
 use std::test::Fail;
 
@@ -156,35 +154,21 @@ static MET: [(Repeat, Repeat); 9] = [
 
 // A text is refused so, and the draft stays as it was.
 fn check_refused(
-    rt: &impl Abort,
-    draft: &mut Draft,
-    text: &[u8],
+    bench: &mut Bench<impl Abort>,
+    text: &str,
     line: &str,
-    out: &mut Vec<u8>,
     note: &str,
 ) -> Result<(), Fail> {
-    check_line(rt, draft, text, line.as_bytes(), out, note)?;
-    out.clear();
-    write_question(draft, out)?;
-    assert_eq!(rt; out.as_slice(), KEPT.as_bytes(), "{note}");
-    Ok(())
+    bench.check_line(text, line, note)?;
+    bench.check_held(KEPT, note)
 }
 
 #[test]
 fn refusals(rt: HostRuntime) -> Result<(), Fail> {
-    let heap = rt.alloc();
-    let mut draft = Draft::new(heap)?;
-    let mut out = Vec::new(heap);
-    check_line(
-        &rt,
-        &mut draft,
-        FIRST.as_bytes(),
-        KEPT.as_bytes(),
-        &mut out,
-        FIRST,
-    )?;
+    let mut bench = Bench::new(&rt, rt.alloc())?;
+    bench.check_line(FIRST, KEPT, FIRST)?;
     for (text, line) in REFUSED.iter() {
-        check_refused(&rt, &mut draft, text.as_bytes(), line, &mut out, *text)?;
+        check_refused(&mut bench, text, line, text)?;
     }
     Ok(())
 }
@@ -192,29 +176,12 @@ fn refusals(rt: HostRuntime) -> Result<(), Fail> {
 #[test]
 fn limits_passed(rt: HostRuntime) -> Result<(), Fail> {
     let heap = rt.alloc();
-    let mut draft = Draft::new(heap)?;
-    let mut text = Vec::new(heap);
-    let mut out = Vec::new(heap);
-    check_line(
-        &rt,
-        &mut draft,
-        FIRST.as_bytes(),
-        KEPT.as_bytes(),
-        &mut out,
-        FIRST,
-    )?;
+    let mut bench = Bench::new(&rt, heap)?;
+    bench.check_line(FIRST, KEPT, FIRST)?;
     for (parts, line) in REFUSED_LONG.iter() {
-        spell(*parts, &mut text)?;
-        let (head, piece, count, tail) = *parts;
-        let note = format!(in heap; "{head}, {piece} {count} times, {tail}")?;
-        check_refused(
-            &rt,
-            &mut draft,
-            text.as_slice(),
-            line,
-            &mut out,
-            note.as_str(),
-        )?;
+        let text = spell(heap, *parts)?;
+        let note = describe(heap, *parts)?;
+        check_refused(&mut bench, text.as_str(), line, note.as_str())?;
     }
     Ok(())
 }
@@ -222,23 +189,12 @@ fn limits_passed(rt: HostRuntime) -> Result<(), Fail> {
 #[test]
 fn limits_met(rt: HostRuntime) -> Result<(), Fail> {
     let heap = rt.alloc();
-    let mut draft = Draft::new(heap)?;
-    let mut text = Vec::new(heap);
-    let mut line = Vec::new(heap);
-    let mut out = Vec::new(heap);
+    let mut bench = Bench::new(&rt, heap)?;
     for (parts, wanted) in MET.iter() {
-        spell(*parts, &mut text)?;
-        spell(*wanted, &mut line)?;
-        let (head, piece, count, tail) = *parts;
-        let note = format!(in heap; "{head}, {piece} {count} times, {tail}")?;
-        check_line(
-            &rt,
-            &mut draft,
-            text.as_slice(),
-            line.as_slice(),
-            &mut out,
-            note.as_str(),
-        )?;
+        let text = spell(heap, *parts)?;
+        let line = spell(heap, *wanted)?;
+        let note = describe(heap, *parts)?;
+        bench.check_line(text.as_str(), line.as_str(), note.as_str())?;
     }
     Ok(())
 }
