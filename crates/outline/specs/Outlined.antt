@@ -1,7 +1,6 @@
 -- A question, or how a text is refused, as one line of bytes.
 use Rattle.std.specs.Prelude.{◌≡◌, ℕ, List, [], ◌∷◌, ◌++◌, IfOk, Some, None, Ok, Err, codes, decimal, Option, Result}
-use Rattle.terms.specs.declared.kind.Kind.{Kind}
-use Rattle.terms.specs.declared.kind.Kind.TheVariants.{Iri, Literal}
+use Rattle.terms.specs.Marks.{opening, closing}
 use Rattle.terms.specs.Terms.{Term}
 use Rattle.grammar.specs.declared.refusal.Refusal.{Refusal}
 use Rattle.judging.specs.declared.refusal.NotBounded.{NotBounded}
@@ -13,12 +12,9 @@ use Rattle.question.specs.Answers.{Answer}
 abbrev pub name_text : Name → List ℕ
 name_text x = codes "?" ++ x
 
-abbrev pub marked : Kind → List ℕ → List ℕ
-marked Iri x = codes "<" ++ (x ++ codes ">")
-marked Literal x = codes "\"" ++ (x ++ codes "\"")
-
+-- between the marks of its kind
 abbrev pub term_text : Term → List ℕ
-term_text t = marked t.kind t.bytes
+term_text t = opening t.kind ∷ (t.bytes ++ (closing t.kind ∷ []))
 
 abbrev pub end_text : Ends → List ℕ
 end_text (constant t) = term_text t
@@ -61,13 +57,16 @@ abbrev pub place_text : Option ℕ → List ℕ
 place_text None = []
 place_text (Some n) = codes " at " ++ decimal n
 
+abbrev pub refused_text : ℕ → List ℕ
+refused_text number = codes "refused " ++ decimal number
+
 abbrev pub refusal_text : Refusal → List ℕ
-refusal_text r = codes "refused " ++ (decimal (number_of r) ++ place_text (offset_of r))
+refusal_text r = refused_text (number_of r) ++ place_text (offset_of r)
 
 -- what judging tells, behind the question
 abbrev pub verdict_text : Result ℕ NotBounded → List ℕ
 verdict_text (Ok n) = codes " sure " ++ decimal n
-verdict_text (Err e) = codes " refused 7"
+verdict_text (Err e) = codes " " ++ refused_text 7
 
 -- this text was added, unless memory ran out
 pub record Adds {X Y : Type 0} (r : Result X Y) (before after text : List ℕ) : Type 0 where

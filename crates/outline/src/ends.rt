@@ -1,5 +1,4 @@
 // Terms and names. A number that stands for nothing is written as the empty IRI or name, which no text has.
-ghost use Rattle.std.specs.Prelude.{◌++◌};
 ghost use Rattle.question.specs.Asking.{asked};
 ghost use Rattle.outline.specs.Outlined.{Adds, name_text, term_text, end_text, names_text};
 ghost use Rattle.question.specs.Parts.{term_at, name_at, end_at};
@@ -7,7 +6,6 @@ ghost use Rattle.question.specs.Parts.{term_at, name_at, end_at};
 use crate::bytes::put;
 use question::{End, Question};
 use std::alloc::AllocError;
-use terms::Kind;
 
 pub fn put_name(q: &Question, number: usize, out: &mut Vec<u8>) -> Result<(), AllocError>
     ensures { Adds result out.old.items out.new.items (name_text (name_at q.now number)) }
@@ -20,18 +18,13 @@ pub fn put_term(q: &Question, number: usize, out: &mut Vec<u8>) -> Result<(), Al
     ensures { Adds result out.old.items out.new.items (term_text (term_at q.now number)) }
 {
     match q.term(number) {
-        Some((Kind::Iri, bytes)) => put_marked(b"<", bytes, b">", out),
-        Some((Kind::Literal, bytes)) => put_marked(b"\"", bytes, b"\"", out),
+        Some((kind, bytes)) => {
+            put(&[kind.opening()], out)?;
+            put(bytes, out)?;
+            put(&[kind.closing()], out)
+        }
         None => put(b"<>", out),
     }
-}
-
-fn put_marked(left: &[u8], bytes: &[u8], right: &[u8], out: &mut Vec<u8>) -> Result<(), AllocError>
-    ensures { Adds result out.old.items out.new.items (left.now ++ (bytes.now ++ right.now)) }
-{
-    put(left, out)?;
-    put(bytes, out)?;
-    put(right, out)
 }
 
 pub fn put_end(q: &Question, end: End, out: &mut Vec<u8>) -> Result<(), AllocError>

@@ -1,6 +1,6 @@
 // The two lines that reading a text can give, and what judging adds.
 ghost use Rattle.question.specs.Answers.{held};
-ghost use Rattle.outline.specs.Outlined.{Adds, outlined, refusal_text, verdict_text};
+ghost use Rattle.outline.specs.Outlined.{Adds, outlined, refused_text, refusal_text, verdict_text};
 
 use crate::bytes::{put, put_number};
 use crate::ends::put_names;
@@ -22,11 +22,17 @@ pub fn write_question(draft: &Draft, out: &mut Vec<u8>) -> Result<(), AllocError
     put_pattern(q, q.nodes(), q.root(), out)
 }
 
+fn put_refused(number: u8, out: &mut Vec<u8>) -> Result<(), AllocError>
+    ensures { Adds result out.old.items out.new.items (refused_text number) }
+{
+    put(b"refused ", out)?;
+    put_number(usize::from(number), out)
+}
+
 pub fn write_refusal(r: &Refusal, out: &mut Vec<u8>) -> Result<(), AllocError>
     ensures { Adds result out.old.items out.new.items (refusal_text r.now) }
 {
-    put(b"refused ", out)?;
-    put_number(usize::from(r.number()), out)?;
+    put_refused(r.number(), out)?;
     if let Some(at) = r.offset() {
         put(b" at ", out)?;
         put_number(at, out)?;
@@ -42,6 +48,9 @@ pub fn write_verdict(verdict: Result<u32, NotBounded>, out: &mut Vec<u8>) -> Res
             put(b" sure ", out)?;
             put_number(count as usize, out)
         }
-        Err(_) => put(b" refused 7", out),
+        Err(refusal) => {
+            put(b" ", out)?;
+            put_refused(refusal.number(), out)
+        }
     }
 }

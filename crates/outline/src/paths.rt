@@ -51,8 +51,8 @@ fn put_one(
     put(b")", out)
 }
 
-// `put_both` of patterns differs in what writes the parts. Closures for them would be no plainer: in a cycle of calls each needs its clauses written out, longer
-// than this function.
+// `put_both` of patterns differs in what writes the parts. Tried as one function over a trait of both, and a cycle of calls that leads through a trait's method
+// gets no proof. Closures would be no plainer: in a cycle of calls each needs its clauses written out, longer than this function.
 #[cycle(path_text)]
 fn put_two(
     q: &Question,
