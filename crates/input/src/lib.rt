@@ -4,6 +4,10 @@
 ghost use Rattle.std.specs.Prelude.{ℕ, ◌≤◌, List, length, take, MatchBool, MatchOption};
 ghost use Rattle.input.specs.Parting.{BeginsLine, Opens, Line, Parted, OneParting, FrontSettles, FrontSettlesPages};
 
+mod refusals;
+
+pub use refusals::tell_refusal;
+
 #[derive(Drop)]
 pub struct Parts<'a> {
     pub question: &'a [u8],

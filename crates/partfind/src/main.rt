@@ -4,6 +4,7 @@
 mod front;
 mod tell;
 
+use input::tell_refusal;
 use question::Draft;
 use std::io;
 use std::io::Read;
@@ -14,6 +15,6 @@ fn main(rt: HostRuntime) -> io::Result<()> {
     let mut draft = Draft::new(rt.alloc())?;
     match front::ask(&mut draft, bytes.as_slice()) {
         Ok(()) => tell::question(&rt, &draft),
-        Err(refusal) => tell::refusal(&rt, &refusal),
+        Err(refusal) => tell_refusal(&rt, refusal.number(), refusal.offset()),
     }
 }

@@ -1,5 +1,4 @@
 // Prints what was read.
-use grammar::Refusal;
 use question::Draft;
 use std::io;
 
@@ -19,14 +18,4 @@ fn variable(rt: &HostRuntime, name: &[u8]) -> io::Result<()> {
     rt.print("?")?;
     rt.write_all(name)?;
     rt.print("\n")
-}
-
-// The number of a refusal, and on the standard error where the token begins that is refused, if one is. `partjudge` tells its own refusals so: one
-// function for both would be no plainer, since it needs a trait of the two types or a crate of its own for these lines.
-pub fn refusal(rt: &HostRuntime, refusal: &Refusal) -> io::Result<()> {
-    println!(rt; "refused {}", refusal.number())?;
-    match refusal.offset() {
-        Some(offset) => eprintln!(rt; "at byte {offset}"),
-        None => Ok(()),
-    }
 }

@@ -3,8 +3,8 @@
 
 mod declined;
 mod front;
-mod tell;
 
+use input::tell_refusal;
 use judging::Judged;
 use question::Draft;
 use std::io;
@@ -16,7 +16,7 @@ fn main(rt: HostRuntime) -> io::Result<()> {
     let mut draft = Draft::new(rt.alloc())?;
     let mut judged = Judged::new(rt.alloc())?;
     match front::ask(&mut draft, &mut judged, bytes.as_slice()) {
-        Ok(sure) => tell::sure(&rt, sure),
-        Err(declined) => tell::declined(&rt, &declined),
+        Ok(sure) => println!(rt; "sure {sure}"),
+        Err(declined) => tell_refusal(&rt, declined.number(), declined.offset()),
     }
 }
