@@ -2,20 +2,19 @@
 use Rattle.std.specs.Prelude.{◌≡◌, ℕ, ◌<◌, ◌≤◌, List, length, take, Ok, Err, Result}
 use Rattle.grammar.specs.Reading.{Asked}
 use Rattle.input.specs.Parting.{Parted}
-use Rattle.question.specs.declared.draft.Draft.{Draft}
 use Rattle.question.specs.Answers as reading
-use Rattle.judging.specs.declared.judged.Judged.{Judged}
 use Rattle.judging.specs.Judging as judging
 use Rattle.partjudge.specs.declared.declined.Declined.{Declined}
 use Rattle.partjudge.specs.declared.declined.Declined.TheVariants.{Text, Verdict, File}
+use Rattle.partjudge.specs.declared.front.Places.{Places}
 
--- what the draft and the judged place hold
+-- what the two places hold
 pub record Held : Type 0 where
   pub draft : Asked
   pub judged : Asked
 
-abbrev pub places : Draft → Judged → Held
-places d j = record { draft = reading.held d; judged = judging.accepted j }
+abbrev pub held : Places → Held
+held p = record { draft = reading.held p.draft; judged = judging.accepted p.judged }
 
 -- The text is read, then judged; then the file is measured, and one over 65,536 bytes is refused.
 abbrev pub Answer : List ℕ → List ℕ → Held → Result ℕ Declined → Held → Type 0

@@ -4,18 +4,16 @@
 mod declined;
 mod front;
 
+use front::{ENOUGH, Places};
 use input::tell_refusal;
-use judging::Judged;
-use question::Draft;
 use std::io;
 use std::io::Read;
 
 fn main(rt: HostRuntime) -> io::Result<()> {
     let mut bytes = Vec::new(rt.alloc());
-    rt.stdin().take(front::ENOUGH).read_to_end(&mut bytes)?;
-    let mut draft = Draft::new(rt.alloc())?;
-    let mut judged = Judged::new(rt.alloc())?;
-    match front::ask(&mut draft, &mut judged, bytes.as_slice()) {
+    rt.stdin().take(ENOUGH).read_to_end(&mut bytes)?;
+    let mut places = Places::new(rt.alloc())?;
+    match places.ask(bytes.as_slice()) {
         Ok(sure) => println!(rt; "sure {sure}"),
         Err(declined) => tell_refusal(&rt, declined.number(), declined.offset()),
     }

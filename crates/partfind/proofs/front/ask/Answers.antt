@@ -1,8 +1,5 @@
-use Rattle.question.specs.Answers.{held}
 use Rattle.partfind.proofs.Settling.{settled}
 use Rattle.partfind.proofs.front.ask.Goals as goal
 
 pub returns : goal.returns
-returns c =
-    settled c.args.front.now c.of-parts.result.question.now c.of-parts.result.pages.now (held c.args.draft.now) c.read.result
-    (held c.read.new.self) c.of-parts.ensures c.read.ensures
+returns c = settled _ _ _ _ _ _ c.of-parts.ensures c.read.ensures
