@@ -2,4 +2,3 @@ pub mod Lists
 pub mod Orders
 pub mod Pages
 pub mod Reading
-pub mod Shelving

@@ -1,24 +1,25 @@
 -- The terms of a list of pages, as a universe.
-use Rattle.std.proofs.Common.{◌≡◌, Bool, true, false, cond, ◌&&◌, List, [], ◌∷◌, ap, ◌∙◌, inl, inr}
+use Rattle.std.proofs.Common.{◌≡◌, Bool, true, false, cond, List, [], ◌∷◌, ap, ◌∙◌, inl, inr}
 use Rattle.std.proofs.lemmas.Bool.{and_parts}
+use Rattle.std.specs.List.{list_all}
 use Rattle.terms.specs.Terms.{Term}
 use Rattle.semantics.specs.Terms.{In, has}
 use Rattle.semantics.specs.Webs.{Triple, terms_listed, by_bytes}
 use Rattle.semantics.proofs.Lists.{has_in}
 use Rattle.semantics.proofs.Bytes.{by_bytes_exact}
 
+-- a member of a list whose members all pass a test
+pub each_passes : {B : Type 0} (p : B → Bool) (l : List B) → list_all p l ≡ true → (a : B) → In a l → p a ≡ true
+each_passes {B} p [] h a i = elim i [ ]
+each_passes {B} p (b ∷ l) h a (inl i) = ap p i ∙ (and_parts (p b) (list_all p l) h).0
+each_passes {B} p (b ∷ l) h a (inr i) = each_passes {B = B} p l (and_parts (p b) (list_all p l) h).1 a i
+
 -- every term of one list stands in another
 abbrev pub within : List Term → List Term → Bool
-within [] U = true
-within (a ∷ l) U = has by_bytes a U && within l U
+within l U = list_all (λ a. has by_bytes a U) l
 
 pub within_has : (l U : List Term) → within l U ≡ true → (a : Term) → has by_bytes a l ≡ true → has by_bytes a U ≡ true
-within_has l U h a e = go l h (has_in by_bytes_exact a l e)
-  where
-    go : (l : List Term) → within l U ≡ true → In a l → has by_bytes a U ≡ true
-    go [] h i = elim i [ ]
-    go (b ∷ l) h (inl i) = ap (λ z. has by_bytes z U) i ∙ (and_parts (has by_bytes b U) (within l U) h).0
-    go (b ∷ l) h (inr i) = go l (and_parts (has by_bytes b U) (within l U) h).1 i
+within_has l U h a e = each_passes (λ b. has by_bytes b U) l h a (has_in by_bytes_exact a l e)
 
 -- a page, or else the other pages
 pub page_within : (t : Term) (a : Term) (b : Bool) (page rest : List (Triple Term)) (U : List Term) → within (terms_listed page) U ≡ true

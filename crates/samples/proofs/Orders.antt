@@ -1,14 +1,9 @@
 -- The two orders of the question about feeders.
 use Rattle.std.proofs.Common.{◌≡◌, Bool, false, ◌||◌, refl, arith}
-use Rattle.weights.specs.Codes.{counting}
-use Rattle.weights.specs.Counts.{counting_is_lawful}
 use Rattle.tokens.specs.Lexed.{same_bytes}
 use Rattle.semantics.specs.Alike.{and_order}
 use Rattle.semantics.specs.Named.{Names}
-use Rattle.semantics.specs.Webs.{by_bytes}
-use Rattle.semantics.proofs.Bytes.{by_bytes_exact}
-use Rattle.semantics.proofs.Proved.{order_and_grouping_by_name}
-use Rattle.samples.specs.Feeders.{graph, capacitor, feeder, substitutes, fitting, first, second, first_names, second_names, TwoOrdersOfOneQuestion, FirstList, SecondList, ListsOfPresence, OneListByName, BothCanBeWalked, OneSetOfDocuments}
+use Rattle.samples.specs.Feeders.{capacitor, feeder, substitutes, fitting, first, second, first_names, second_names, TwoOrdersOfOneQuestion}
 
 first_names_lem : Names first first_names
 first_names_lem = record { distinct = (refl, (refl, tt)); these = λ n. these (same_bytes n capacitor) (same_bytes n feeder) }
@@ -24,23 +19,3 @@ second_names_lem = record { distinct = (refl, (refl, tt)); these = λ n. these (
 
 pub two_orders_of_one_question : TwoOrdersOfOneQuestion
 two_orders_of_one_question = (and_order substitutes fitting, first_names_lem, second_names_lem)
-
-pub first_list : FirstList
-first_list = refl
-
-pub second_list : SecondList
-second_list = refl
-
-pub lists_of_presence : ListsOfPresence
-lists_of_presence = (refl, refl)
-
-pub one_list_by_name : OneListByName
-one_list_by_name σ =
-    order_and_grouping_by_name by_bytes by_bytes_exact graph counting counting_is_lawful first second (and_order substitutes fitting)
-    first_names second_names first_names_lem second_names_lem σ
-
-pub both_can_be_walked : BothCanBeWalked
-both_can_be_walked = (refl, refl)
-
-pub one_set_of_documents : OneSetOfDocuments
-one_set_of_documents = (refl, refl)

@@ -1,61 +1,13 @@
--- The solutions over the file of four pages, by computing them.
+-- The file of four pages is a Web, and the terms listed are its universe. What its questions solve to is found by computing.
 use Rattle.std.proofs.Common.{◌≡◌, Bool, true, false, cond, List, [], refl, ap, ◌∙◌, inl, inr}
 use Rattle.terms.specs.Terms.{Term}
-use Rattle.grammar.specs.Judged.{judged}
 use Rattle.semantics.specs.Terms.{In, has}
 use Rattle.semantics.specs.Webs.{Triple, terms_in, terms_listed, Met, Universe, by_bytes, lawful_iri, Found}
 use Rattle.semantics.proofs.Lists.{clash, has_in}
 use Rattle.semantics.proofs.Bytes.{by_bytes_exact}
 use Rattle.samples.specs.File.{m1, m2, m3, m4, found, universe, Asked}
-use Rattle.samples.proofs.Lists.{within, within_has, page_within}
-use Rattle.samples.specs.Shown.{TwoWaysCountTwo, PresenceCountsNoWays, StarBeginsWhereItStands, BackwardsIsNotBounded, InverseGoesBackwards, AContextHasOneSubject, EmptyHasOneSolution, OptionGivesTheValue, NothingIsHandedIntoAnOption, AlternativesAdd, LiteralReachesItself, TheOthersAreBounded, FileIsAWeb, PagesThatAreNeeded, walked}
-
-pub two_ways_count_two : TwoWaysCountTwo
-two_ways_count_two = refl
-
-pub presence_counts_no_ways : PresenceCountsNoWays
-presence_counts_no_ways = refl
-
-pub backwards_is_not_bounded : BackwardsIsNotBounded
-backwards_is_not_bounded = refl
-
-pub inverse_goes_backwards : InverseGoesBackwards
-inverse_goes_backwards = refl
-
-pub a_context_has_one_subject : AContextHasOneSubject
-a_context_has_one_subject = refl
-
-pub empty_has_one_solution : EmptyHasOneSolution
-empty_has_one_solution = refl
-
-pub option_gives_the_value : OptionGivesTheValue
-option_gives_the_value = refl
-
-pub alternatives_add : AlternativesAdd
-alternatives_add = refl
-
-pub literal_reaches_itself : LiteralReachesItself
-literal_reaches_itself = refl
-
-pub star_begins_where_it_stands : StarBeginsWhereItStands
-star_begins_where_it_stands = refl
-
-pub nothing_is_handed_into_an_option : NothingIsHandedIntoAnOption
-nothing_is_handed_into_an_option = refl
-
-pub the_others_are_bounded : TheOthersAreBounded
-the_others_are_bounded q (inl e) = ap (λ z. judged z 0) e
-the_others_are_bounded q (inr (inl e)) = ap (λ z. judged z 0) e
-the_others_are_bounded q (inr (inr (inl e))) = ap (λ z. judged z 0) e
-the_others_are_bounded q (inr (inr (inr (inl e)))) = ap (λ z. judged z 0) e
-the_others_are_bounded q (inr (inr (inr (inr (inl e))))) = ap (λ z. judged z 0) e
-the_others_are_bounded q (inr (inr (inr (inr (inr (inl e)))))) = ap (λ z. judged z 0) e
-the_others_are_bounded q (inr (inr (inr (inr (inr (inr (inl e))))))) = ap (λ z. judged z 0) e
-the_others_are_bounded q (inr (inr (inr (inr (inr (inr (inr (inl e)))))))) = ap (λ z. judged z 0) e
-the_others_are_bounded q (inr (inr (inr (inr (inr (inr (inr (inr (inl e))))))))) = ap (λ z. judged z 0) e
-the_others_are_bounded q (inr (inr (inr (inr (inr (inr (inr (inr (inr i))))))))) = elim i [ ]
-
--- ---- the file as a Web
+use Rattle.samples.proofs.Lists.{each_passes, within, within_has, page_within}
+use Rattle.samples.specs.Shown.{FileIsAWeb, walked}
 
 lawful_page : (t p : Term) (page rest : List (Triple Term)) → lawful_iri p ≡ true → lawful_iri t ≡ false → rest ≡ [] → cond (by_bytes.same t p) page rest ≡ []
 lawful_page t p page rest h e r = pick (by_bytes.same t p) refl
@@ -97,20 +49,5 @@ its_universe q h = record {
     all a (inl e) = within_has (terms_in q) universe h a e
     all a (inr e) = listed_in e.0 a e.2
 
-terms_within : (q : Asked) → In q walked → within (terms_in q) universe ≡ true
-terms_within q (inl e) = ap (λ z. within (terms_in z) universe) e
-terms_within q (inr (inl e)) = ap (λ z. within (terms_in z) universe) e
-terms_within q (inr (inr (inl e))) = ap (λ z. within (terms_in z) universe) e
-terms_within q (inr (inr (inr (inl e)))) = ap (λ z. within (terms_in z) universe) e
-terms_within q (inr (inr (inr (inr (inl e))))) = ap (λ z. within (terms_in z) universe) e
-terms_within q (inr (inr (inr (inr (inr (inl e)))))) = ap (λ z. within (terms_in z) universe) e
-terms_within q (inr (inr (inr (inr (inr (inr (inl e))))))) = ap (λ z. within (terms_in z) universe) e
-terms_within q (inr (inr (inr (inr (inr (inr (inr (inl e)))))))) = ap (λ z. within (terms_in z) universe) e
-terms_within q (inr (inr (inr (inr (inr (inr (inr (inr (inl e))))))))) = ap (λ z. within (terms_in z) universe) e
-terms_within q (inr (inr (inr (inr (inr (inr (inr (inr (inr i))))))))) = elim i [ ]
-
 pub file_is_a_web : FileIsAWeb
-file_is_a_web = (a_web, λ q i. its_universe q (terms_within q i))
-
-pub pages_that_are_needed : PagesThatAreNeeded
-pages_that_are_needed = (refl, refl, refl, refl, refl, refl, refl, refl, refl)
+file_is_a_web = (a_web, λ q i. its_universe q (each_passes (λ p. within (terms_in p) universe) walked refl q i))
