@@ -1,47 +1,10 @@
 -- Where a line of exactly `==` stands, and that the first such line parts an input in one way.
-use Rattle.std.proofs.Common.{◌≡◌, ℕ, ◌+◌, ◌-◌, ◌<◌, ◌≤◌, true, false, eqb, ◌⊎◌, List, [], ◌∷◌, ◌++◌, length, get_or, take, drop, codes, MatchBool, sym, refl, ap, ◌∙◌, subst, inl, inr, arith}
+use Rattle.std.proofs.Common.{◌≡◌, ℕ, ◌+◌, ◌-◌, ◌<◌, ◌≤◌, ◌⊎◌, List, [], ◌++◌, length, take, drop, sym, refl, ap, ◌∙◌, subst, inl, inr, arith}
 use Rattle.std.proofs.lemmas.Bool.{cases_lt}
-use Rattle.std.proofs.lemmas.Bool.Decides.{eqb_tells}
-use Rattle.std.proofs.lemmas.List.{append_cancel_left, take-append-drop, length-append, length-take-le, take_at, take_rest, take_more, same_from_push}
+use Rattle.std.proofs.lemmas.List.{append_cancel_left, take-append-drop, length-append, length-take-le, take_at, take_rest}
 use Rattle.input.specs.Parting.{BeginsLine, Opens, Line, Parted, OneParting}
 
--- ---- the bytes at which it begins
-
-pub begins_after : (xs : List ℕ) (i : ℕ) → 0 < i → i ≤ length xs → get_or xs (i - 1) 0 ≡ 10 → BeginsLine (take i xs)
-begins_after xs i p h e =
-    let n : i - 1 + 1 ≡ i = omega arith in
-    inr (take (i - 1) xs, subst (λ k. take k xs ≡ take (i - 1) xs ++ codes "\n") n (take_more xs (i - 1) 0 (omega arith) ∙ ap (λ b. take (i - 1) xs ++ b ∷ []) e))
-
-pub begins_not : (xs : List ℕ) (i : ℕ) → 0 < i → i ≤ length xs → (get_or xs (i - 1) 0 ≡ 10 → ⊥) → BeginsLine (take i xs) → ⊥
-begins_not xs i p h f (inl e) = absurd (omega (arith, length-take-le i xs h, ap length e))
-begins_not xs i p h f (inr (bytes, e)) =
-    let n : i - 1 + 1 ≡ i = omega arith in
-    let m : take i xs ≡ take (i - 1) xs ++ get_or xs (i - 1) 0 ∷ [] = subst (λ k. take k xs ≡ take (i - 1) xs ++ get_or xs (i - 1) 0 ∷ []) n (take_more xs (i - 1) 0 (omega arith)) in
-    f (same_from_push (take (i - 1) xs) bytes (get_or xs (i - 1) 0) 10 (sym m ∙ e)).1
-
--- what the code's test of the byte before tells
-pub begins_told : (xs : List ℕ) (i : ℕ) → (i ≡ 0 → ⊥) → i ≤ length xs
-    → MatchBool (eqb (get_or xs (i - 1) 0) 10) (BeginsLine (take i xs)) (BeginsLine (take i xs) → ⊥)
-begins_told xs i n h = go (eqb_tells (get_or xs (i - 1) 0) 10)
-  where
-    go : ((eqb (get_or xs (i - 1) 0) 10 ≡ true) × (get_or xs (i - 1) 0 ≡ 10)) ⊎ ((eqb (get_or xs (i - 1) 0) 10 ≡ false) × (get_or xs (i - 1) 0 ≡ 10 → ⊥))
-        → MatchBool (eqb (get_or xs (i - 1) 0) 10) (BeginsLine (take i xs)) (BeginsLine (take i xs) → ⊥)
-    go (inl (t, e)) = subst (λ b. MatchBool b (BeginsLine (take i xs)) (BeginsLine (take i xs) → ⊥)) (sym t) (begins_after xs i (omega arith) h e)
-    go (inr (t, e)) = subst (λ b. MatchBool b (BeginsLine (take i xs)) (BeginsLine (take i xs) → ⊥)) (sym t) (begins_not xs i (omega arith) h e)
-
 -- ---- its bytes
-
-pub opens_alone : (xs : List ℕ) → length xs ≡ 2 → get_or xs 0 0 ≡ 61 → get_or xs 1 0 ≡ 61 → Opens xs (take (length xs - 2) (drop 2 xs))
-opens_alone [] n e f = absurd (omega arith)
-opens_alone (a ∷ []) n e f = absurd (omega arith)
-opens_alone (a ∷ b ∷ []) n e f = inr (cc, refl)
-opens_alone (a ∷ b ∷ c ∷ xs) n e f = absurd (omega arith)
-
-pub opens_pages : (xs : List ℕ) → 3 ≤ length xs → get_or xs 0 0 ≡ 61 → get_or xs 1 0 ≡ 61 → get_or xs 2 0 ≡ 10 → Opens xs (take (length xs - 3) (drop 3 xs))
-opens_pages [] n e f g = absurd (omega arith)
-opens_pages (a ∷ []) n e f g = absurd (omega arith)
-opens_pages (a ∷ b ∷ []) n e f g = absurd (omega arith)
-opens_pages (a ∷ b ∷ c ∷ xs) n e f g = let r = take_rest (a ∷ b ∷ c ∷ xs) 3 in inl cc
 
 pub opens_long : (rest pages : List ℕ) → Opens rest pages → 2 ≤ length rest
 opens_long rest pages (inl e) = omega (arith, ap length e)

@@ -58,7 +58,7 @@ fn opened(rest: &[u8]) -> Option<&[u8]>
     ensures { MatchOption result ((pages : List ℕ) → Opens rest.now pages → ⊥) (λ pages. Opens rest.now pages.now) }
 {
     match rest {
-        [b'=', b'='] => Some(&rest[2..]),
+        [b'=', b'='] => Some(&[]),
         [b'=', b'=', b'\n', pages @ ..] => Some(pages),
         _ => None,
     }

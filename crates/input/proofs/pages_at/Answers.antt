@@ -10,6 +10,3 @@ opened_at xs i None b f = no_line_at xs i f
 
 pub returns-then-begins_line : goal.returns-then-begins_line
 returns-then-begins_line c = opened_at c.args.input.now c.args.at c.opened.result c.if-begins_line.ensures c.opened.ensures
-
-pub returns-else-begins_line : goal.returns-else-begins_line
-returns-else-begins_line c = λ pages l. c.if-begins_line.ensures l.begins

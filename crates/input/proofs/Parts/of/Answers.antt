@@ -2,9 +2,6 @@ use Rattle.std.proofs.Common.{arith, below_more}
 use Rattle.input.proofs.Lines.{parted_at, parted_whole}
 use Rattle.input.proofs.Parts.of.Goals as goal
 
-pub loop-at-init : goal.loop-at-init
-loop-at-init c = λ k h. absurd (omega arith)
-
 pub loop-at-preserved : goal.loop-at-preserved
 loop-at-preserved c = below_more _ _ c.loop-at.invariant c.in_default.ensures
 
