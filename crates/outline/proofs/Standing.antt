@@ -7,7 +7,7 @@ use Rattle.grammar.specs.Grammar.{iri_term}
 use Rattle.question.specs.declared.question.Question.{Question}
 use Rattle.question.specs.declared.node.PathNode.{PathNode}
 use Rattle.question.specs.declared.node.PatternNode.{PatternNode}
-use Rattle.question.specs.Arena.{term_of, path_at, pattern_at, path_of, pattern_of, paths_of, patterns_of}
+use Rattle.question.specs.Arena.{term_of, pattern_at, path_of, pattern_of, paths_of, patterns_of}
 use Rattle.question.specs.Answers.{Told}
 use Rattle.question.proofs.Standing.{here}
 use Rattle.question.specs.Asking.{asked}
@@ -24,7 +24,7 @@ capped xs d n m few e false h = get_or_past xs m d (omega (arith, ltb-false n (2
 
 pub term_capped : (q : Question) (n m : ℕ) → m ≡ min n (2 ^ 64 - 1) → term_at q m ≡ term_at q n
 term_capped q n m e =
-    let few : length (asked q).terms < 2 ^ 63 = omega (arith, length-map (items q.terms) (term_of (items q.text)), q.terms.small) in
+    let few : length (asked q).terms < 2 ^ 63 = omega (arith, length-map (items q.terms) (term_of (items q.text)), q.terms.few) in
     capped (asked q).terms (iri_term []) n m few e (ltb n (2 ^ 64)) refl
 
 pub path_here : (q : Question) (limit i : ℕ) (node as-node : PathNode) → i < limit → Told (λ (x y : PathNode). x ≡ y) (items q.paths) i (Some node) → node ≡ as-node → path_text (path_of (env_of q).term (paths_of (env_of q).term (take i (items q.paths))) as-node) ≡ path_text (path_before q limit i)
@@ -39,12 +39,7 @@ pattern_here q limit i node m lt t e =
     let ns = items q.patterns in
     ap pattern_text (ap (pattern_of f (patterns_of f (take i ns))) (sym e) ∙ sym (here (pattern_of f) ns limit i node empty lt t))
 
--- there are no more paths, and no more patterns, than nodes
-pub path_whole : (q : Question) (limit i : ℕ) → limit ≡ q.nodes → path_text (path_before q limit i) ≡ path_text ((env_of q).path i)
-path_whole q limit i e =
-    let ns = items q.paths in
-    ap (λ l. path_text (path_at (paths_of (env_of q).term l) i)) (take_all limit ns (omega (arith, q.counted)))
-
+-- there are no more patterns than nodes
 pub pattern_whole : (q : Question) (limit i : ℕ) → limit ≡ q.nodes → i ≡ q.root → pattern_text (pattern_before q limit i) ≡ pattern_text (asked q).pattern
 pattern_whole q limit i e f =
     let ns = items q.patterns in
