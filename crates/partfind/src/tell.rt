@@ -6,10 +6,8 @@ use std::io;
 pub fn question(rt: &HostRuntime, draft: &Draft) -> io::Result<()> {
     println!(rt; "nodes {}", draft.nodes())?;
     let question = draft.question();
-    for number in 0..question.variables() {
-        if let Some(name) = question.name(number) {
-            variable(rt, name)?;
-        }
+    for name in (0..question.variables()).filter_map(|number| question.name(number)) {
+        variable(rt, name)?;
     }
     Ok(())
 }
