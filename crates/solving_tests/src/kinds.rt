@@ -1,9 +1,12 @@
+use std::process::Abort;
 use weights::{Count, Presence, Weight};
 
 const TOP: u32 = 2_147_483_647;
 
 // Two weights, their sum, their product, and whether the left one comes first or they tie.
-const COUNTS: [(u32, u32, u32, u32, bool); 8] = [
+type Case = (u32, u32, u32, u32, bool);
+
+const COUNTS: [Case; 8] = [
     (0, 0, 0, 0, true),
     (0, 5, 5, 0, false),
     (1, 5, 6, 5, false),
@@ -15,27 +18,27 @@ const COUNTS: [(u32, u32, u32, u32, bool); 8] = [
     (TOP, TOP, TOP, TOP, true),
 ];
 
-const PRESENCES: [(u32, u32, u32, u32, bool); 4] = [
+const PRESENCES: [Case; 4] = [
     (0, 0, 0, 0, true),
     (0, 1, 1, 0, true),
     (1, 0, 1, 0, true),
     (1, 1, 1, 1, true),
 ];
 
+fn check_kind(rt: &impl Abort, kind: &impl Weight, cases: &[Case]) {
+    for (left, right, sum, product, first) in cases {
+        assert!(rt; kind.sum(*left, *right) == *sum && kind.product(*left, *right) == *product);
+        assert!(rt; kind.first(*left, *right) == *first && kind.is_zero(*left) == (*left == 0));
+    }
+    assert!(rt; kind.zero() == 0 && kind.one() == 1);
+}
+
 #[test]
 fn counts(rt: HostRuntime) {
-    for (left, right, sum, product, first) in COUNTS {
-        assert!(rt; Count.sum(left, right) == sum && Count.product(left, right) == product);
-        assert!(rt; Count.first(left, right) == first && Count.is_zero(left) == (left == 0));
-    }
-    assert!(rt; Count.zero() == 0 && Count.one() == 1);
+    check_kind(&rt, &Count, &COUNTS);
 }
 
 #[test]
 fn presences(rt: HostRuntime) {
-    for (left, right, sum, product, first) in PRESENCES {
-        assert!(rt; Presence.sum(left, right) == sum && Presence.product(left, right) == product);
-        assert!(rt; Presence.first(left, right) == first && Presence.is_zero(left) == (left == 0));
-    }
-    assert!(rt; Presence.zero() == 0 && Presence.one() == 1);
+    check_kind(&rt, &Presence, &PRESENCES);
 }
