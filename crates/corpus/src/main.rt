@@ -6,15 +6,11 @@ use outline::write_reading;
 use question::Draft;
 
 // One draft reads all texts, so what one leaves behind would show in the next.
-fn run(rt: &HostRuntime) -> anyhow::Result<()> {
+fn main(rt: HostRuntime) -> anyhow::Result<()> {
     let heap = rt.alloc();
     let mut draft = Draft::new(heap)?;
     answer_hex_lines(heap, rt.stdin(), &mut rt.stdout(), |text, out| {
         write_reading(&mut draft, text, out)?;
         Ok(())
     })
-}
-
-fn main(rt: HostRuntime) -> anyhow::Result<()> {
-    run(&rt)
 }

@@ -24,7 +24,7 @@ fn answer(
 }
 
 // One draft reads all texts and one place takes all that are bounded, so what one leaves behind would show in the next.
-fn run(rt: &HostRuntime) -> anyhow::Result<()> {
+fn main(rt: HostRuntime) -> anyhow::Result<()> {
     let heap = rt.alloc();
     let mut draft = Draft::new(heap)?;
     let mut judged = Judged::new(heap)?;
@@ -32,8 +32,4 @@ fn run(rt: &HostRuntime) -> anyhow::Result<()> {
         answer(&mut draft, &mut judged, text, out)?;
         Ok(())
     })
-}
-
-fn main(rt: HostRuntime) -> anyhow::Result<()> {
-    run(&rt)
 }
