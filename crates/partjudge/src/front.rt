@@ -1,4 +1,6 @@
 // The front of the input, which is all of it that matters.
+ghost use Rattle.std.specs.Prelude.{◌≡◌, IfOk};
+ghost use Rattle.question.specs.Asking.{nothing_asked};
 ghost use Rattle.partjudge.specs.Asking.{Answer, Settles, held};
 
 use crate::declined::Declined;
@@ -19,7 +21,10 @@ pub struct Places {
 }
 
 impl Places {
-    pub fn new(heap: Global) -> Result<Places, AllocError> {
+    // The empty group in both. Only this call can fail for want of memory.
+    pub fn new(heap: Global) -> Result<Places, AllocError>
+        ensures { IfOk result (λ p. held p ≡ record { draft = nothing_asked; judged = nothing_asked }) }
+    {
         Ok(Places {
             draft: Draft::new(heap)?,
             judged: Judged::new(heap)?,
