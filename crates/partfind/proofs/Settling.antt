@@ -1,19 +1,12 @@
 -- The answer to the question of an input's front is the answer to the question of the input.
-use Rattle.std.proofs.Common.{◌≡◌, ℕ, ◌<◌, ◌⊎◌, List, length, Ok, Err, Result, sym, subst, inl, inr, arith}
+use Rattle.std.proofs.Common.{◌≡◌, ℕ, ◌<◌, ◌⊎◌, List, length, Result, sym, subst, inl, inr}
 use Rattle.grammar.specs.declared.refusal.Refusal.{Refusal}
-use Rattle.grammar.specs.declared.refusal.Refusal.TheVariants.{TextTooLong, TooManyNodes, At}
 use Rattle.grammar.specs.Reading.{Asked}
 use Rattle.question.specs.Answers.{Answer}
+use Rattle.question.proofs.TooLong.{too_long}
 use Rattle.input.specs.Parting.{Parted}
 use Rattle.input.proofs.Fronts.{front_settles}
 use Rattle.partfind.specs.Asking.{Settles}
-
--- texts that are too long have one answer
-too_long : (text t : List ℕ) (before : Asked) (r : Result (Unit {0}) Refusal) (after : Asked) → 2048 < length text → 2048 < length t → Answer t before r after → Answer text before r after
-too_long text t before (Ok u) after h k a = absurd (omega (arith, a.lawful.short))
-too_long text t before (Err TextTooLong) after h k a = (h, a.1)
-too_long text t before (Err TooManyNodes) after h k a = absurd (omega (arith, a.0.1.short))
-too_long text t before (Err (At f)) after h k a = absurd (omega (arith, a.0.0))
 
 pub settled : (front question pages : List ℕ) (before : Asked) (r : Result (Unit {0}) Refusal) (after : Asked) → Parted front question pages → Answer question before r after → Settles front before r after
 settled front question pages before r after parted a input q p e whole =

@@ -1,10 +1,7 @@
 -- The answer to the question of an input's front is the answer to the question of the input.
 use Rattle.std.proofs.Common.{◌≡◌, ℕ, ◌<◌, ◌≤◌, ◌⊎◌, List, length, take, Ok, Err, Result, sym, ap, subst, inl, inr, arith}
 use Rattle.std.proofs.lemmas.Bool.{cases_lt}
-use Rattle.grammar.specs.declared.refusal.Refusal.{Refusal}
-use Rattle.grammar.specs.declared.refusal.Refusal.TheVariants.{TextTooLong, TooManyNodes, At}
-use Rattle.grammar.specs.Reading.{Asked}
-use Rattle.question.specs.Answers as reading
+use Rattle.question.proofs.TooLong.{too_long as question_too_long}
 use Rattle.input.specs.Parting.{Parted}
 use Rattle.input.proofs.Fronts.{front_settles, front_settles_pages}
 use Rattle.partjudge.specs.declared.declined.Declined.{Declined}
@@ -12,15 +9,9 @@ use Rattle.partjudge.specs.declared.declined.Declined.TheVariants.{Text, Verdict
 use Rattle.partjudge.specs.Asking.{Held, Answer, Settles}
 
 -- texts that are too long have one answer
-too_long_read : (text t : List ℕ) (before : Asked) (r : Result (Unit {0}) Refusal) (after : Asked) → 2048 < length text → 2048 < length t → reading.Answer t before r after → reading.Answer text before r after
-too_long_read text t before (Ok u) after h k a = absurd (omega (arith, a.lawful.short))
-too_long_read text t before (Err TextTooLong) after h k a = (h, a.1)
-too_long_read text t before (Err TooManyNodes) after h k a = absurd (omega (arith, a.0.1.short))
-too_long_read text t before (Err (At f)) after h k a = absurd (omega (arith, a.0.0))
-
 too_long : (text t file f : List ℕ) (before : Held) (r : Result ℕ Declined) (after : Held) → 2048 < length text → 2048 < length t → Answer t f before r after → Answer text file before r after
 too_long text t file f before (Ok n) after h k a = absurd (omega (arith, a.0.lawful.short))
-too_long text t file f before (Err (Text e)) after h k a = (too_long_read text t before.draft (Err e) after.draft h k a.0, a.1)
+too_long text t file f before (Err (Text e)) after h k a = (question_too_long text t before.draft (Err e) after.draft h k a.0, a.1)
 too_long text t file f before (Err (Verdict e)) after h k a = absurd (omega (arith, a.0.lawful.short))
 too_long text t file f before (Err (File e)) after h k a = absurd (omega (arith, a.0.lawful.short))
 

@@ -11,4 +11,5 @@ pub mod PatternParts
 pub mod Placing
 pub mod Standing
 pub mod Taking
+pub mod TooLong
 pub mod Verdicts
