@@ -37,7 +37,7 @@ impl Draft {
         if text.len() > 2048 {
             return Err(Refusal::TextTooLong);
         }
-        // A branch for each answer, and no `?`, so that what becomes of the draft after a refusal is there to be read.
+        // By a `match` and no `?`: with `?` the edit that gives a half-read draft away is refused by a name of the proof, and not by the fact, as a rule of the project asks.
         match self.reader.question(text) {
             Ok(()) => {
                 self.reader.give(&mut self.question);
