@@ -61,17 +61,17 @@ second_fails p q m s r h f e = subst (Judges (and p q) m) (sym e) (first_side_de
 
 -- ---- ends
 
-pub mask_as : (term : ℕ → ℕ) (q : Question) (a : End) → end_names a ≤ length (asked q).names → end_mask (meant_end term (λ v. v) a) ≡ end_mask (numbered_end (asked q).names (end_at q a))
+pub mask_as : (term : ℕ → ℕ) (q : Question) (a : End ℕ) → end_names a ≤ length (asked q).names → end_mask (meant_end term (λ v. v) a) ≡ end_mask (numbered_end (asked q).names (end_at q a))
 mask_as term q (end.Term t) le = refl
 mask_as term q (end.Variable v) le = ap (λ n. 2 ^ n) (sym (place_at (asked q).names v.number q.distinct (omega arith)))
 
-pub fixed_as : (term : ℕ → ℕ) (q : Question) (a : End) (m : ℕ) → end_names a ≤ length (asked q).names → fixed (member m) (meant_end term (λ v. v) a) ≡ fixed (member m) (numbered_end (asked q).names (end_at q a))
+pub fixed_as : (term : ℕ → ℕ) (q : Question) (a : End ℕ) (m : ℕ) → end_names a ≤ length (asked q).names → fixed (member m) (meant_end term (λ v. v) a) ≡ fixed (member m) (numbered_end (asked q).names (end_at q a))
 fixed_as term q (end.Term t) m le = refl
 fixed_as term q (end.Variable v) m le = ap (member m) (sym (place_at (asked q).names v.number q.distinct (omega arith)))
 
 -- a test of an end by number is one by name
-abbrev Tests : ℕ → End → Bool → Type 0
+abbrev Tests : ℕ → End ℕ → Bool → Type 0
 Tests m a b = (term : ℕ → ℕ) → b ≡ fixed (member m) (meant_end term (λ v. v) a)
 
-pub line_walks : (q : Question) (a b : End) (p m : ℕ) (l r : Bool) → end_names a ≤ length (asked q).names → end_names b ≤ length (asked q).names → Tests m a l → Tests m b r → walkable (path_is q p) l r ≡ judged (line_at q a p b) m
+pub line_walks : (q : Question) (a b : End ℕ) (p m : ℕ) (l r : Bool) → end_names a ≤ length (asked q).names → end_names b ≤ length (asked q).names → Tests m a l → Tests m b r → walkable (path_is q p) l r ≡ judged (line_at q a p b) m
 line_walks q a b p m l r le lf el er = ap₂ (walkable (path_is q p)) (el (λ i. i) ∙ fixed_as (λ i. i) q a m le) (er (λ i. i) ∙ fixed_as (λ i. i) q b m lf)

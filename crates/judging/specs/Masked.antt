@@ -27,7 +27,7 @@ path_by numbers q i = (by_number numbers q).path i
 abbrev pub asks_by : List ℕ → Question → ℕ → Pattern ℕ ℕ
 asks_by numbers q i = meant_pattern_at (meant_patterns (by_number numbers q) (items q.patterns)) i
 
-abbrev pub line_at : Question → End → ℕ → End → Asks
+abbrev pub line_at : Question → End ℕ → ℕ → End ℕ → Asks
 line_at q a p b = line (numbered_end (asked q).names (end_at q a)) (path_is q p) (numbered_end (asked q).names (end_at q b))
 
 -- the mask of a pattern's sure variables, where it is bounded by a mask

@@ -9,7 +9,7 @@ ghost use Rattle.judging.specs.Judging.{how_many};
 use question::End;
 
 // The variable of an end, whatever its term stands for.
-pub fn mask_of(end: End) -> u8
+pub fn mask_of(end: End<usize>) -> u8
     ensures { (term : ℕ → ℕ) → result ≡ end_mask (meant_end term (λ v. v) end) }
 {
     match end {
@@ -19,7 +19,7 @@ pub fn mask_of(end: End) -> u8
 }
 
 // Whether the term at an end is known, whatever it stands for.
-pub fn is_fixed(end: End, fixed: u8) -> bool
+pub fn is_fixed(end: End<usize>, fixed: u8) -> bool
     ensures { (term : ℕ → ℕ) → result ≡ known (member fixed) (meant_end term (λ v. v) end) }
 {
     match end {

@@ -29,7 +29,13 @@ pub(crate) fn judge(q: &Question, index: usize, fixed: u8) -> Option<u8>
     }
 }
 
-fn judge_line(q: &Question, subject: End, path: usize, object: End, fixed: u8) -> Option<u8>
+fn judge_line(
+    q: &Question,
+    subject: End<usize>,
+    path: usize,
+    object: End<usize>,
+    fixed: u8,
+) -> Option<u8>
     requires subject { end_names subject ≤ length (asked q.now).names }
     requires object { end_names object ≤ length (asked q.now).names }
     ensures { Judges (line_at q.now subject path object) fixed result }

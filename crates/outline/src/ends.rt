@@ -27,7 +27,7 @@ pub fn put_term(q: &Question, number: usize, out: &mut Vec<u8>) -> Result<(), Al
     }
 }
 
-pub fn put_end(q: &Question, end: End, out: &mut Vec<u8>) -> Result<(), AllocError>
+pub fn put_end(q: &Question, end: End<usize>, out: &mut Vec<u8>) -> Result<(), AllocError>
     ensures { Adds result out.old.items out.new.items (end_text (end_at q.now end)) }
 {
     match end {

@@ -59,9 +59,9 @@ fn put_both(
 
 fn put_line(
     q: &Question,
-    subject: End,
+    subject: End<usize>,
     path: usize,
-    object: End,
+    object: End<usize>,
     out: &mut Vec<u8>,
 ) -> Result<(), AllocError>
     ensures { Adds result out.old.items out.new.items (codes "(line " ++ (end_text (end_at q.now subject) ++ (codes " " ++ (path_text ((env_of q.now).path path) ++ (codes " " ++ (end_text (end_at q.now object) ++ codes ")")))))) }

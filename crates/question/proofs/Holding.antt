@@ -141,7 +141,7 @@ path_stays {p} {q} o h = record { stands = λ e s. stands_more (grown (path_of e
 pub pattern_stays : {p q : View} {i : ℕ} {x : Patterns} → Onward p q → HeldPattern p i x → HeldPattern q i x
 pattern_stays {p} {q} o h = record { stands = λ e s. stands_more (grown (pattern_of e) p.patterns q.patterns o.patterns) (h.stands e (sees_before o s)) }
 
-pub end_stays : {p q : View} {x : End} {v : Ends} → Onward p q → HeldEnd p x v → HeldEnd q x v
+pub end_stays : {p q : View} {x : End ℕ} {v : Ends} → Onward p q → HeldEnd p x v → HeldEnd q x v
 end_stays o h = record { stands = λ e s. h.stands e (sees_before o s) }
 
 -- ---- lengths

@@ -93,7 +93,7 @@ module _ {p : View} where
   pub line_first : {f : Fault} → Failed (a is_end) p f → Failed (a is_line) p f
   line_first h = failed_in opened_line h
 
-  module _ {q : View} {x : End} (s : ReadEnd p q x) where
+  module _ {q : View} {x : End ℕ} (s : ReadEnd p q x) where
     pub line_path : {f : Fault} → Failed (a is_path) q f → Failed (a is_line) p f
     line_path h = failed_in (went_on opened_line s.went) h
 
@@ -101,7 +101,7 @@ module _ {p : View} where
       pub line_second : {f : Fault} → Failed (a is_end) r f → Failed (a is_line) p f
       line_second h = failed_in (went_on (went_on opened_line s.went) t.went) h
 
-      module _ {u : View} {y : End} (o : ReadEnd r u y) where
+      module _ {u : View} {y : End ℕ} (o : ReadEnd r u y) where
         pub line_dot : {f : Fault} → Failed (the Dot) u f → Failed (a is_line) p f
         line_dot h = failed_in (went_on (went_on (went_on opened_line s.went) t.went) o.went) h
 

@@ -44,7 +44,7 @@ path_of f ps (path.Star p) = star (path_at ps p)
 path_of f ps (path.Sequence p q) = sequence (path_at ps p) (path_at ps q)
 path_of f ps (path.Alternative p q) = alternative (path_at ps p) (path_at ps q)
 
-abbrev pub end_of : (ℕ → Term) → (ℕ → Name) → End → Ends
+abbrev pub end_of : (ℕ → Term) → (ℕ → Name) → End ℕ → Ends
 end_of f g (end.Term t) = constant (f t)
 end_of f g (end.Variable v) = variable (g v.number)
 

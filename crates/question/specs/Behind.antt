@@ -24,11 +24,11 @@ path_terms (path.Star p) = 0
 path_terms (path.Sequence p q) = 0
 path_terms (path.Alternative p q) = 0
 
-abbrev pub end_terms : End → ℕ
+abbrev pub end_terms : End ℕ → ℕ
 end_terms (end.Term t) = t + 1
 end_terms (end.Variable v) = 0
 
-abbrev pub end_names : End → ℕ
+abbrev pub end_names : End ℕ → ℕ
 end_names (end.Term t) = 0
 end_names (end.Variable v) = v.number + 1
 

@@ -28,7 +28,7 @@ meant_path f ps (path.Star p) = star (meant_path_at ps p)
 meant_path f ps (path.Sequence p q) = sequence (meant_path_at ps p) (meant_path_at ps q)
 meant_path f ps (path.Alternative p q) = alternative (meant_path_at ps p) (meant_path_at ps q)
 
-abbrev pub meant_end : {T V : Type 0} → (ℕ → T) → (ℕ → V) → End → grammar.End T V
+abbrev pub meant_end : {T V : Type 0} → (ℕ → T) → (ℕ → V) → End ℕ → grammar.End T V
 meant_end f g (end.Term t) = constant (f t)
 meant_end f g (end.Variable v) = variable (g v.number)
 

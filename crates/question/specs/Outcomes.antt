@@ -68,7 +68,7 @@ PathRead k of from to r = Outcome (a k) from (λ i. Read k of path_nodes HeldPat
 abbrev pub PatternRead : (k : Kind) → (Tree k → Patterns) → View → View → Result ℕ Fault → Type 0
 PatternRead k of from to r = Outcome (a k) from (λ i. Read k of nodes HeldPattern from to i) r
 
-pub record ReadEnd (from to : View) (x : End) : Type 0 where
+pub record ReadEnd (from to : View) (x : End ℕ) : Type 0 where
   pub tree : Tree is_end
   pub reads : words from.spots ≡ spell tree (words to.spots)
   pub went : Went (a is_end ∷ []) [] from to

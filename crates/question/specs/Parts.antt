@@ -17,7 +17,7 @@ term_at q i = (env_of q).term i
 abbrev pub name_at : Question → ℕ → Name
 name_at q i = (env_of q).name i
 
-abbrev pub end_at : Question → End → Ends
+abbrev pub end_at : Question → End ℕ → Ends
 end_at q a = end_of (env_of q).term (env_of q).name a
 
 abbrev pub path_is : Question → ℕ → Paths

@@ -126,5 +126,5 @@ pub record HeldPath (a : View) (i : ℕ) (p : Paths) : Type 0 where
 pub record HeldPattern (a : View) (i : ℕ) (p : Patterns) : Type 0 where
   pub stands : (e : Env) → Sees a e → Stands (patterns_of e a.patterns) i p
 
-pub record HeldEnd (a : View) (x : End) (v : Ends) : Type 0 where
+pub record HeldEnd (a : View) (x : End ℕ) (v : Ends) : Type 0 where
   pub stands : (e : Env) → Sees a e → end_of e.term e.name x ≡ v

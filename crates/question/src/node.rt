@@ -10,10 +10,10 @@ pub struct Variable {
     ghost below: { number < 8 },
 }
 
-// An end of a line: a term of the question, by number, or a variable.
+// An end of a line: a term, by its place in the question or by its number in a store, or a variable.
 #[derive(Clone, Copy)]
-pub enum End {
-    Term(usize),
+pub enum End<T> {
+    Term(T),
     Variable(Variable),
 }
 
@@ -33,9 +33,9 @@ pub enum PathNode {
 pub enum PatternNode {
     Empty,
     Line {
-        subject: End,
+        subject: End<usize>,
         path: usize,
-        object: End,
+        object: End<usize>,
     },
     And(usize, usize),
     Union(usize, usize),

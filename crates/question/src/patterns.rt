@@ -85,7 +85,7 @@ impl Reader {
     }
 
     // An arm for each kind of term: of one for both no proof of the clause was found.
-    fn end(&mut self) -> Result<End, Fault>
+    fn end(&mut self) -> Result<End<usize>, Fault>
         ensures { Outcome (a is_end) (view self.old) (λ x. ReadEnd (view self.old) (view self.new) x) result }
     {
         match self.next.token {
