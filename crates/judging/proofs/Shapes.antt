@@ -65,8 +65,11 @@ record SameNode (numbers : List ℕ) (q : Question) (n : PatternNode) : Type 0 w
 
 same_pattern_node : (numbers : List ℕ) (q : Question) (i : ℕ) (n : PatternNode) → pattern_from n ≤ i → pattern_names n ≤ length (asked q).names → ((j : ℕ) → j < i → SamePattern numbers q j) → SameNode numbers q n
 same_pattern_node numbers q i pattern.Empty le names h = record { verdict = λ m. refl; mask = refl }
-same_pattern_node numbers q i (pattern.Line a p b) le names h =
+same_pattern_node numbers q i (pattern.Line l) le names h =
     let f = (by_number numbers q).term in
+    let a = l.subject in
+    let p = l.path in
+    let b = l.object in
     record {
       verdict = λ m. ap₂ (walkable ((by_number numbers q).path p)) (fixed_as f q a m (omega arith)) (fixed_as f q b m (omega arith)) ∙ same_walk f (env_of q).term q p _ _;
       mask = ap₂ bit_or (mask_as f q a (omega arith)) (mask_as f q b (omega arith));

@@ -7,7 +7,7 @@ ghost use Rattle.judging.specs.Masked.{Judges, asks_at, line_at};
 
 use crate::masks::{is_fixed, mask_of};
 use crate::paths::walkable;
-use question::{End, PatternNode, Question};
+use question::{Line, PatternNode, Question};
 
 #[cycle(pattern_verdict)]
 pub(crate) fn judge(q: &Question, index: usize, fixed: u8) -> Option<u8>
@@ -18,28 +18,23 @@ pub(crate) fn judge(q: &Question, index: usize, fixed: u8) -> Option<u8>
     };
     match node {
         PatternNode::Empty => Some(0),
-        PatternNode::Line {
-            subject,
-            path,
-            object,
-        } => judge_line(q, subject, path, object, fixed),
+        PatternNode::Line(node) => judge_line(q, node, fixed),
         PatternNode::And(left, right) => judge_and(q, left, right, fixed),
         PatternNode::Union(left, right) => judge_union(q, left, right, fixed),
         PatternNode::Opt(left, right) => judge_opt(q, left, right, fixed),
     }
 }
 
-fn judge_line(
-    q: &Question,
-    subject: End<usize>,
-    path: usize,
-    object: End<usize>,
-    fixed: u8,
-) -> Option<u8>
-    requires subject { end_names subject ≤ length (asked q.now).names }
-    requires object { end_names object ≤ length (asked q.now).names }
-    ensures { Judges (line_at q.now subject path object) fixed result }
+fn judge_line(q: &Question, node: Line, fixed: u8) -> Option<u8>
+    requires subject { end_names node.subject ≤ length (asked q.now).names }
+    requires object { end_names node.object ≤ length (asked q.now).names }
+    ensures { Judges (line_at q.now node.subject node.path node.object) fixed result }
 {
+    let Line {
+        subject,
+        path,
+        object,
+    } = node;
     if walkable(q, path, is_fixed(subject, fixed), is_fixed(object, fixed)) {
         Some(mask_of(subject) | mask_of(object))
     } else {

@@ -7,7 +7,7 @@ ghost use Rattle.outline.specs.Parts.{pattern_before};
 use crate::bytes::put;
 use crate::ends::put_end;
 use crate::paths::put_path;
-use question::{End, PatternNode, Question};
+use question::{Line, PatternNode, Question};
 use std::alloc::AllocError;
 
 // The pattern at an index, if it stands before the limit.
@@ -28,11 +28,7 @@ pub fn put_pattern(
     };
     match node {
         PatternNode::Empty => put(b"(empty)", out),
-        PatternNode::Line {
-            subject,
-            path,
-            object,
-        } => put_line(q, subject, path, object, out),
+        PatternNode::Line(node) => put_line(q, node, out),
         PatternNode::And(left, right) => put_both(q, b"(and ", index, left, right, out),
         PatternNode::Union(left, right) => put_both(q, b"(union ", index, left, right, out),
         PatternNode::Opt(left, right) => put_both(q, b"(opt ", index, left, right, out),
@@ -57,21 +53,15 @@ fn put_both(
     put(b")", out)
 }
 
-fn put_line(
-    q: &Question,
-    subject: End<usize>,
-    path: usize,
-    object: End<usize>,
-    out: &mut Vec<u8>,
-) -> Result<(), AllocError>
-    ensures { Adds result out.old.items out.new.items (codes "(line " ++ (end_text (end_at q.now subject) ++ (codes " " ++ (path_text ((env_of q.now).path path) ++ (codes " " ++ (end_text (end_at q.now object) ++ codes ")")))))) }
+fn put_line(q: &Question, node: Line, out: &mut Vec<u8>) -> Result<(), AllocError>
+    ensures { Adds result out.old.items out.new.items (codes "(line " ++ (end_text (end_at q.now node.subject) ++ (codes " " ++ (path_text ((env_of q.now).path node.path) ++ (codes " " ++ (end_text (end_at q.now node.object) ++ codes ")")))))) }
 {
     put(b"(line ", out)?;
-    put_end(q, subject, out)?;
+    put_end(q, node.subject, out)?;
     put(b" ", out)?;
     // There are no more paths than nodes.
-    put_path(q, q.nodes(), path, out)?;
+    put_path(q, q.nodes(), node.path, out)?;
     put(b" ", out)?;
-    put_end(q, object, out)?;
+    put_end(q, node.object, out)?;
     put(b")", out)
 }

@@ -77,7 +77,7 @@ module _ {r : Reader} where
   pub opt_fits : {i j : ℕ} {y : Patterns} → PatternThere r i → (r.full ≡ false → HeldPattern (view r) j y) → PatternFits r (pattern.Opt i j)
   opt_fits h k = record { from = λ f. omega (arith, h f, pattern_there r (k f)); paths = λ f. omega arith; terms = λ f. omega arith; names = λ f. omega arith }
 
-  pub line_fits : {p q s u : View} {x y : End ℕ} {l n : ℕ} → ReadEnd p q x → PathDone is_path (λ t. means t) q s l → ReadEnd s u y → Took Dot u (view r) n → PatternFits r (pattern.Line x l y)
+  pub line_fits : {p q s u : View} {x y : End ℕ} {l n : ℕ} → ReadEnd p q x → PathDone is_path (λ t. means t) q s l → ReadEnd s u y → Took Dot u (view r) n → PatternFits r (pattern.Line (record { subject = x; path = l; object = y }))
   line_fits x b y d = record {
     from = λ f. omega arith;
     paths = λ f.

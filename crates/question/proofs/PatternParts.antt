@@ -105,7 +105,7 @@ module _ {p : View} where
         pub line_dot : {f : Fault} → Failed (the Dot) u f → Failed (a is_line) p f
         line_dot h = failed_in (went_on (went_on (went_on opened_line s.went) t.went) o.went) h
 
-        pub line_read : {v w : View} {n i : ℕ} → Took Dot u v n → PlacedPattern v w (node.Line x l y) 1 i → PatternDone is_line (λ t. means t) p w i
+        pub line_read : {v w : View} {n i : ℕ} → Took Dot u v n → PlacedPattern v w (node.Line (record { subject = x; path = l; object = y })) 1 i → PatternDone is_line (λ t. means t) p w i
         line_read {v} {w} d z = record {
           tree = ends s.tree t.tree o.tree;
           reads = s.reads ∙ ap (spell s.tree) (t.reads ∙ ap (spell t.tree) (o.reads ∙ ap (spell o.tree) (took_reads d ∙ ap (λ k. saying Dot [] ∷ words k) (sym z.placed.spots))));

@@ -97,7 +97,7 @@ module _ {p q : View} {n i : ℕ} where
   pub empty_placed : PlacedPattern p q pattern.Empty n i → q.full ≡ false → HeldPattern q i empty
   empty_placed h f = pattern_placed h f empty (λ e v. refl)
 
-  pub line_placed : {a b : End ℕ} {l : ℕ} {x y : Ends} {z : Paths} → PlacedPattern p q (pattern.Line a l b) n i → HeldEnd p a x → HeldPath p l z → HeldEnd p b y → q.full ≡ false → HeldPattern q i (line x z y)
+  pub line_placed : {a b : End ℕ} {l : ℕ} {x y : Ends} {z : Paths} → PlacedPattern p q (pattern.Line (record { subject = a; path = l; object = b })) n i → HeldEnd p a x → HeldPath p l z → HeldEnd p b y → q.full ≡ false → HeldPattern q i (line x z y)
   line_placed {a} {b} {l} {x} {y} {z} h s t u f =
       pattern_placed h f (line x z y) (λ e v. let k = s.stands e v in let m = v.paths l z (t.stands e v) in let o = u.stands e v in λ j. line (k j) (m j) (o j))
 

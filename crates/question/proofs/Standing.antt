@@ -74,7 +74,7 @@ path_parts f ns i (path.Alternative p r) le lt =
 
 pattern_parts : {T V : Type 0} (e : EnvOf T V) (ns : List PatternNode) (i : ℕ) (n : PatternNode) → pattern_from n ≤ i → i ≤ length ns → meant_pattern e (meant_patterns e (take i ns)) n ≡ meant_pattern e (meant_patterns e ns) n
 pattern_parts e ns i pattern.Empty le lt = refl
-pattern_parts e ns i (pattern.Line a p b) le lt = refl
+pattern_parts e ns i (pattern.Line l) le lt = refl
 pattern_parts e ns i (pattern.And p r) le lt =
     ap₂ and (earlier (meant_pattern e) ns i p empty (omega arith) lt) (earlier (meant_pattern e) ns i r empty (omega arith) lt)
 pattern_parts e ns i (pattern.Union p r) le lt =

@@ -56,7 +56,7 @@ pub record Env : Type 0 where
 
 abbrev pub pattern_of : Env → List Patterns → PatternNode → Patterns
 pattern_of e ps pattern.Empty = empty
-pattern_of e ps (pattern.Line a p b) = line (end_of e.term e.name a) (e.path p) (end_of e.term e.name b)
+pattern_of e ps (pattern.Line l) = line (end_of e.term e.name l.subject) (e.path l.path) (end_of e.term e.name l.object)
 pattern_of e ps (pattern.And p q) = and (pattern_at ps p) (pattern_at ps q)
 pattern_of e ps (pattern.Union p q) = union (pattern_at ps p) (pattern_at ps q)
 pattern_of e ps (pattern.Opt p q) = opt (pattern_at ps p) (pattern_at ps q)

@@ -35,28 +35,28 @@ end_names (end.Variable v) = v.number + 1
 -- the first index at which a pattern can stand, and how many paths, terms and names there must be
 abbrev pub pattern_from : PatternNode → ℕ
 pattern_from pattern.Empty = 0
-pattern_from (pattern.Line a p b) = 0
+pattern_from (pattern.Line l) = 0
 pattern_from (pattern.And p q) = max p q + 1
 pattern_from (pattern.Union p q) = max p q + 1
 pattern_from (pattern.Opt p q) = max p q + 1
 
 abbrev pub pattern_paths : PatternNode → ℕ
 pattern_paths pattern.Empty = 0
-pattern_paths (pattern.Line a p b) = p + 1
+pattern_paths (pattern.Line l) = l.path + 1
 pattern_paths (pattern.And p q) = 0
 pattern_paths (pattern.Union p q) = 0
 pattern_paths (pattern.Opt p q) = 0
 
 abbrev pub pattern_terms : PatternNode → ℕ
 pattern_terms pattern.Empty = 0
-pattern_terms (pattern.Line a p b) = max (end_terms a) (end_terms b)
+pattern_terms (pattern.Line l) = max (end_terms l.subject) (end_terms l.object)
 pattern_terms (pattern.And p q) = 0
 pattern_terms (pattern.Union p q) = 0
 pattern_terms (pattern.Opt p q) = 0
 
 abbrev pub pattern_names : PatternNode → ℕ
 pattern_names pattern.Empty = 0
-pattern_names (pattern.Line a p b) = max (end_names a) (end_names b)
+pattern_names (pattern.Line l) = max (end_names l.subject) (end_names l.object)
 pattern_names (pattern.And p q) = 0
 pattern_names (pattern.Union p q) = 0
 pattern_names (pattern.Opt p q) = 0

@@ -43,7 +43,7 @@ env_of_names e = record { term = e.term; name = e.name; path = e.path }
 
 abbrev pub meant_pattern : {T V : Type 0} → EnvOf T V → List (Pattern T V) → PatternNode → Pattern T V
 meant_pattern e ps pattern.Empty = empty
-meant_pattern e ps (pattern.Line a p b) = line (meant_end e.term e.name a) (e.path p) (meant_end e.term e.name b)
+meant_pattern e ps (pattern.Line l) = line (meant_end e.term e.name l.subject) (e.path l.path) (meant_end e.term e.name l.object)
 meant_pattern e ps (pattern.And p q) = and (meant_pattern_at ps p) (meant_pattern_at ps q)
 meant_pattern e ps (pattern.Union p q) = union (meant_pattern_at ps p) (meant_pattern_at ps q)
 meant_pattern e ps (pattern.Opt p q) = opt (meant_pattern_at ps p) (meant_pattern_at ps q)

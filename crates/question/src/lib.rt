@@ -22,6 +22,6 @@ mod start;
 
 pub use draft::Draft;
 pub use laws::nodes_stand_alike;
-pub use node::{End, PathNode, PatternNode, Variable};
+pub use node::{End, Line, PathNode, PatternNode, Variable};
 pub use question::Question;
 pub use span::{Span, TermSpan};

@@ -29,14 +29,18 @@ pub enum PathNode {
     Alternative(usize, usize),
 }
 
+// What a path links.
+#[derive(Clone, Copy)]
+pub struct Line {
+    pub subject: End<usize>,
+    pub path: usize,
+    pub object: End<usize>,
+}
+
 #[derive(Clone, Copy)]
 pub enum PatternNode {
     Empty,
-    Line {
-        subject: End<usize>,
-        path: usize,
-        object: End<usize>,
-    },
+    Line(Line),
     And(usize, usize),
     Union(usize, usize),
     Opt(usize, usize),

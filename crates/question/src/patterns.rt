@@ -5,7 +5,7 @@ ghost use Rattle.question.specs.Views.{view};
 ghost use Rattle.question.specs.Outcomes.{Outcome, PatternRead, ReadEnd, ReadItem, ReadItems};
 ghost use Rattle.question.specs.Within.{LeftThere};
 
-use crate::node::{End, PatternNode, Variable};
+use crate::node::{End, Line, PatternNode, Variable};
 use crate::reader::Reader;
 use grammar::Fault;
 use tokens::Token;
@@ -77,11 +77,11 @@ impl Reader {
         let path = self.path()?;
         let object = self.end()?;
         self.expect(Token::Dot)?;
-        Ok(self.add_pattern(PatternNode::Line {
+        Ok(self.add_pattern(PatternNode::Line(Line {
             subject,
             path,
             object,
-        }))
+        })))
     }
 
     // An arm for each kind of term: of one for both no proof of the clause was found.
