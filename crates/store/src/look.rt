@@ -26,31 +26,34 @@ impl Unlooked {
     }
 }
 
-// One part of a listed triple enters, by way of a buffer that is as long as a term may be, since nothing is allocated.
-fn enter_part<W: Web>(
-    web: &W,
-    iri: &[u8],
-    place: usize,
-    part: u8,
-    terms: &mut Lexicon,
-) -> Option<u16>
-    ensures { (t : Term) → cell (W.Web.meaning web.now iri.now) place part ≡ Some t → length t.bytes ≤ 128 → Enters t (held terms.old) result (held terms.new) }
-{
-    let mut out = [0u8; 128];
-    let written = web.read(iri, place, part, &mut out).ok()?;
-    terms.enter(written.kind, &out[..written.length])
+// What a Web has at an IRI.
+#[derive(Drop)]
+struct Document<'a, W> {
+    web: &'a W,
+    iri: &'a [u8],
+}
+
+impl<W: Web> Document<'_, W> {
+    // One part of a listed triple enters, by way of a buffer that is as long as a term may be, since nothing is allocated.
+    fn enter_part(&self, place: usize, part: u8, terms: &mut Lexicon) -> Option<u16>
+        ensures { (t : Term) → cell (W.Web.meaning self.now.web.now self.now.iri.now) place part ≡ Some t → length t.bytes ≤ 128 → Enters t (held terms.old) result (held terms.new) }
+    {
+        let mut out = [0u8; 128];
+        let written = self.web.read(self.iri, place, part, &mut out).ok()?;
+        terms.enter(written.kind, &out[..written.length])
+    }
 }
 
 impl Documents {
     // The triples of a list enter in order, by place, as a Web tells them, until one does not fit.
-    fn gather<W: Web>(&mut self, web: &W, iri: &[u8], count: usize) -> Option<()>
+    fn gather<W: Web>(&mut self, document: &Document<W>, count: usize) -> Option<()>
         requires { length (items self.old.triples) + count ≤ 4096 }
-        ensures { (xs : List Triple) → W.Web.meaning web.now iri.now ≡ found xs → count ≡ length xs → Gathering (held self.old.terms) (items self.old.triples) xs (is_some result) (held self.new.terms) (items self.new.triples) }
+        ensures { (xs : List Triple) → W.Web.meaning document.now.web.now document.now.iri.now ≡ found xs → count ≡ length xs → Gathering (held self.old.terms) (items self.old.triples) xs (is_some result) (held self.new.terms) (items self.new.triples) }
     {
         for place in 0..count {
-            let subject = enter_part(web, iri, place, 1, &mut self.terms)?;
-            let predicate = enter_part(web, iri, place, 2, &mut self.terms)?;
-            let object = enter_part(web, iri, place, 3, &mut self.terms)?;
+            let subject = document.enter_part(place, 1, &mut self.terms)?;
+            let predicate = document.enter_part(place, 2, &mut self.terms)?;
+            let object = document.enter_part(place, 3, &mut self.terms)?;
             let _ = self.triples.push(Listed {
                 subject,
                 predicate,
@@ -61,17 +64,17 @@ impl Documents {
     }
 
     // Looks an IRI up, and keeps what its document lists if all of it fits.
-    fn fetch<W: Web>(&mut self, web: &W, iri: &[u8]) -> Mark
-        ensures { Fetched (told W.Cause.mark (W.Web.meaning web.now iri.now)) (held self.old.terms) (items self.old.triples) result (held self.new.terms) (items self.new.triples) }
+    fn fetch<W: Web>(&mut self, document: &Document<W>) -> Mark
+        ensures { Fetched (told W.Cause.mark (W.Web.meaning document.now.web.now document.now.iri.now)) (held self.old.terms) (items self.old.triples) result (held self.new.terms) (items self.new.triples) }
     {
-        match web.lookup(iri) {
+        match document.web.lookup(document.iri) {
             Ok(Some(count)) => {
                 if count > self.triples.free() {
                     return Mark::Unfit;
                 }
                 let known = self.terms.count();
                 let first = self.triples.len();
-                if self.gather(web, iri, count).is_some() {
+                if self.gather(document, count).is_some() {
                     return Mark::Found(count);
                 }
                 self.terms.cut(known);
@@ -115,7 +118,11 @@ impl Store {
         }
         let address = address(&self.documents.terms, iri).ok_or(Unlooked::NoSuch)?;
         let first = self.documents.triples.len();
-        let mark = self.documents.fetch(web, address.as_slice());
+        let document = Document {
+            web,
+            iri: address.as_slice(),
+        };
+        let mark = self.documents.fetch(&document);
         let _ = self.noted.push(Noted { iri, mark, first });
         Ok(())
     }
