@@ -1,5 +1,5 @@
 // The nodes of a question's tree. Paths and patterns stand in an arena each, every node behind its children, which it names by index. An arena and no
-// boxes, by a rule of the project: a tree has 64 nodes at most, in memory that is reserved once.
+// boxes, since memory is reserved once: a tree has 64 nodes at most, and no reading can fail for want of it.
 
 ghost use Rattle.std.specs.Prelude.{◌<◌};
 
