@@ -29,8 +29,5 @@ pub fn unhex(heap: Global, word: &[u8]) -> Result<Option<Vec<u8>>, FromHexError>
 pub fn bytes_of(heap: Global, word: &[u8], message: &'static str) -> anyhow::Result<Vec<u8>>
     ensures { IfOk result (λ bytes. word.now ≡ encode_lower bytes.items) }
 {
-    match unhex(heap, word)? {
-        Some(bytes) => Ok(bytes),
-        None => Err(anyhow!("{message}")),
-    }
+    unhex(heap, word)?.ok_or_else(|| anyhow!("{message}"))
 }
