@@ -1,2 +1,3 @@
+mod First
 mod Lines
 pub mod Fronts

@@ -1,7 +1,7 @@
 // The parts of an input: a question, a line of exactly `==`, and pages.
 #![tactic(auto)]
 
-ghost use Rattle.std.specs.Prelude.{ℕ, ◌≤◌, List, length, take, MatchBool, MatchOption};
+ghost use Rattle.std.specs.Prelude.{◌≡◌, ℕ, ◌≤◌, List, length, take, MatchBool, MatchOption};
 ghost use Rattle.input.specs.Parting.{BeginsLine, Opens, Line, Parted, OneParting, FrontSettles, FrontSettlesPages};
 
 mod refusals;
@@ -19,30 +19,27 @@ impl<'a> Parts<'a> {
     pub fn of(input: &'a [u8]) -> Parts<'a>
         ensures { Parted input.now result.question.now result.pages.now }
     {
-        for at in 0..input.len() {
-            if let Some(pages) = pages_at(input, at) {
-                return Parts {
-                    question: &input[..at],
-                    pages,
-                };
-            }
-        }
-        Parts {
-            question: input,
-            pages: &[],
-        }
+        (0..input.len())
+            .find_map(|place| Parts::at(input, place))
+            .unwrap_or(Parts {
+                question: input,
+                pages: &[],
+            })
     }
-}
 
-// The pages that a line `==` at this place opens.
-fn pages_at(input: &[u8], at: usize) -> Option<&[u8]>
-    requires { at ≤ length input.now }
-    ensures { MatchOption result ((pages : List ℕ) → Line input.now (take at input.now) pages → ⊥) (λ pages. Line input.now (take at input.now) pages.now) }
-{
-    if begins_line(input, at) {
-        opened(&input[at..])
-    } else {
-        None
+    // The parts that a line `==` at this place makes.
+    fn at(input: &'a [u8], place: usize) -> Option<Parts<'a>>
+        requires { place ≤ length input.now }
+        ensures { MatchOption result ((pages : List ℕ) → Line input.now (take place input.now) pages → ⊥) (λ parts. (parts.question.now ≡ take place input.now) × Line input.now (take place input.now) parts.pages.now) }
+    {
+        if !begins_line(input, place) {
+            return None;
+        }
+        let pages = opened(&input[place..])?;
+        Some(Parts {
+            question: &input[..place],
+            pages,
+        })
     }
 }
 
