@@ -12,7 +12,8 @@ pub fn put(bytes: &[u8], out: &mut Vec<u8>) -> Result<(), AllocError>
     out.extend_from_slice(bytes)
 }
 
-// In decimal, without leading zeros.
+// In decimal, without leading zeros. `write_number` of telling is alike, over u64: each is one call of `to_string`, and a crate of its own for
+// two lines would be no plainer.
 pub fn put_number(n: usize, out: &mut Vec<u8>) -> Result<(), AllocError>
     ensures { Adds result out.old.items out.new.items (decimal n) }
 {

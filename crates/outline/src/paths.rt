@@ -53,6 +53,7 @@ fn put_one(
 
 // `put_both` of patterns differs in what writes the parts. Tried as one function over a trait of both, and a cycle of calls that leads through a trait's method
 // gets no proof. Closures would be no plainer: in a cycle of calls each needs its clauses written out, longer than this function.
+// The question and `out` go side by side for the reason at `put` in bytes.rt.
 #[cycle(path_text)]
 fn put_two(
     q: &Question,

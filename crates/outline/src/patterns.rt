@@ -35,6 +35,7 @@ pub fn put_pattern(
     }
 }
 
+// Why it stays apart from `put_two` is said there, in paths.rt.
 #[cycle(pattern_text)]
 fn put_both(
     q: &Question,

@@ -8,7 +8,7 @@ pub struct Pages<'a> {
     ghost short: { length file.now ≤ 65536 },
 }
 
-// A file that is longer than 65,536 bytes.
+// A file that is longer than 65,536 bytes. The one reason for which a file is refused: an enum of one variant would be no plainer.
 #[derive(Clone, Copy)]
 pub struct TooLong {
     pub length: usize,

@@ -39,6 +39,7 @@ impl From<TooLong> for Declined {
 }
 
 impl Declined {
+    // Asks its parts, since each has its own number.
     pub fn number(&self) -> u8
         ensures { result ≡ number_of self.now }
     {

@@ -56,7 +56,7 @@ impl Reader {
         }
     }
 
-    // Groups parted by UNION; one alone is itself.
+    // Groups parted by UNION; one alone is itself. Why it stays apart from `path` and `sequence` is said at the head of paths.rt.
     #[cycle(group_reading)]
     fn groups(&mut self) -> Result<usize, Fault>
         ensures { PatternRead is_groups (λ t. means t) (view self.old) (view self.new) result }

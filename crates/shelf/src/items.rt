@@ -18,7 +18,7 @@ pub struct Noted {
     pub first: usize,
 }
 
-// A triple by the numbers of its terms. 0 is no term.
+// A triple by the numbers of its terms. 0 is no term, as in the format of a row (crates/rows/src/row.rt).
 #[derive(Clone, Copy)]
 pub struct Listed {
     pub subject: u16,

@@ -33,7 +33,8 @@ fn enter_all(terms: &mut Lexicon, question: &Question) -> Option<()>
     Some(())
 }
 
-// Counts the places as above. A question has no more terms than there is room for. 0 is the number of no term.
+// Counts the places as above. A question has no more terms than there is room for. 0 is the number of no term, as in the format of a
+// row (crates/rows/src/row.rt).
 fn number_all(terms: &Lexicon, question: &Question, numbers: &mut Room<u16, 2048>)
     ensures { items numbers.new ≡ map (number_of (held terms.now)) (asked question.now).terms }
 {

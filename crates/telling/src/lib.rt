@@ -7,6 +7,7 @@ use web::{Cause, Web};
 // A buffer is filled with this before each read.
 const BLANK: u8 = b'_';
 
+// `put_number` of outline is alike, over usize. Why the two stay apart is said there.
 fn write_number(n: u64, out: &mut Vec<u8>) -> Result<(), AllocError> {
     let digits = n.to_string(*out.allocator())?;
     out.extend_from_slice(digits.as_bytes())
@@ -42,7 +43,8 @@ impl<W: Web> Asked<'_, W> {
         }
     }
 
-    // A term in its marks, or the number of the refusal. The buffer is longer than any term, so that a read that wrote behind the term would show.
+    // A term in its marks, or the number of the refusal. `Web::read` writes into the caller's buffer and tells the length. Two bytes more than any
+    // term has would show a write behind the term.
     fn write_term(&self, place: usize, part: u8, out: &mut Vec<u8>) -> Result<(), AllocError> {
         let mut buffer = [BLANK; 130];
         out.push(b' ')?;

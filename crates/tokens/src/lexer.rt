@@ -68,7 +68,8 @@ impl<'a> Place<'a> {
         }
     }
 
-    // The IRI whose `<` stands here. No IRI is empty, while a literal may be: so each has its function.
+    // The IRI whose `<` stands here. No IRI is empty, while a literal may be. One function of both would be told the class, the mark, the sort and
+    // whether it may be empty, and be no plainer.
     fn iri(self) -> Lexeme
         ensures { Reads self.entry.text.now self.entry.start (iri_piece (drop (self.entry.start + 1) self.entry.text.now)) result }
     {

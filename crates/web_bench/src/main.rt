@@ -14,7 +14,7 @@ struct Sums {
 }
 
 impl Sums {
-    // The buffer is as long as a term may be.
+    // `Web::read` writes into the caller's buffer, which is as long as a term may be.
     fn read_one<W: Web>(&mut self, web: &W, iri: &[u8], place: usize, part: u8) {
         let mut buffer = [0; 128];
         if let Ok(written) = web.read(iri, place, part, &mut buffer) {
