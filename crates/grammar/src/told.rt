@@ -8,7 +8,7 @@ impl Refusal {
     pub fn number(&self) -> u8
         ensures { result ≡ number_of self.now }
     {
-        // 1 and 4 by hand: an enum with a variant that holds data, as `At` does, cannot be cast to its discriminant.
+        // 1 and 4 by hand: an enum with a variant that holds data, as `At` does, cannot be cast to its discriminant, so no other form is had.
         match *self {
             Refusal::TextTooLong => 1,
             Refusal::TooManyNodes => 4,

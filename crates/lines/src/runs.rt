@@ -5,8 +5,8 @@ ghost use Rattle.lines.specs.Runs.{differs, term_byte};
 use memchr::memchr;
 use terms::{Kind, is_iri_byte, is_literal_byte};
 
-// How many bytes stand here that a term of a kind may have. A chain for each kind: one chain over a test that asks for the kind at
-// each byte would be no plainer.
+// How many bytes stand here that a term of a kind may have. A chain for each kind: one chain would have the same `match` within its test, at each byte,
+// and be no plainer.
 pub fn term_run(bytes: &[u8], kind: Kind) -> usize
     ensures { result ≡ length (take_while (term_byte kind) bytes.now) }
 {

@@ -10,7 +10,7 @@ use crate::ends::put_term;
 use question::{PathNode, Question};
 use std::alloc::AllocError;
 
-// The path at an index, if it stands before the limit.
+// The path at an index, if it stands before the limit. `put_pattern` begins alike: why the two stay apart is said at `put_two`.
 #[cycle(path_text)]
 pub fn put_path(
     q: &Question,
@@ -53,7 +53,7 @@ fn put_one(
 
 // `put_both` of patterns differs in what writes the parts. Tried as one function over a trait of both, and a cycle of calls that leads through a trait's method
 // gets no proof. Closures would be no plainer: in a cycle of calls each needs its clauses written out, longer than this function.
-// The question and `out` go side by side for the reason at `put` in bytes.rt.
+// Six parameters: the question and `out` go side by side for the reason at `put` in bytes.rt, and the others are the node's own.
 #[cycle(path_text)]
 fn put_two(
     q: &Question,

@@ -10,7 +10,7 @@ use crate::paths::put_path;
 use question::{Line, PatternNode, Question};
 use std::alloc::AllocError;
 
-// The pattern at an index, if it stands before the limit.
+// The pattern at an index, if it stands before the limit. `put_path` begins alike: why the two stay apart is said at `put_two`, in paths.rt.
 #[cycle(pattern_text)]
 pub fn put_pattern(
     q: &Question,
@@ -35,7 +35,7 @@ pub fn put_pattern(
     }
 }
 
-// Why it stays apart from `put_two` is said there, in paths.rt.
+// Why it stays apart from `put_two`, and why both have six parameters, is said there, in paths.rt.
 #[cycle(pattern_text)]
 fn put_both(
     q: &Question,

@@ -39,7 +39,7 @@ impl From<TooLong> for Declined {
 }
 
 impl Declined {
-    // Asks its parts, since each has its own number.
+    // Asks its parts: each has its number, and to write it here again would be no plainer.
     pub fn number(&self) -> u8
         ensures { result ≡ number_of self.now }
     {

@@ -37,7 +37,8 @@ impl Draft {
         if text.len() > 2048 {
             return Err(Refusal::TextTooLong);
         }
-        // By a `match` and no `?`: with `?` the edit that gives a half-read draft away is refused by a name of the proof, and not by the fact, as a rule of the project asks.
+        // By a `match` and no `?`: with `?` the edit that gives a half-read draft away falls by a name that a proof file misses, and edits are to
+        // fall by a fact (DECISIONS.md, under Forms).
         match self.reader.question(text) {
             Ok(()) => {
                 self.reader.give(&mut self.question);
