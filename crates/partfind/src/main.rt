@@ -1,20 +1,20 @@
-// Reads a question from the standard input, and tells what was read or how it is refused.
+// Reads a question and pages from the standard input, judges the question and measures the pages.
 #![tactic(auto)]
 
+mod declined;
 mod front;
-mod tell;
 
+use front::{ENOUGH, Places};
 use input::tell_refusal;
-use question::Draft;
 use std::io;
 use std::io::Read;
 
 fn main(rt: HostRuntime) -> io::Result<()> {
     let mut bytes = Vec::new(rt.alloc());
-    rt.stdin().take(front::ENOUGH).read_to_end(&mut bytes)?;
-    let mut draft = Draft::new(rt.alloc())?;
-    match front::ask(&mut draft, bytes.as_slice()) {
-        Ok(()) => tell::question(&rt, &draft),
-        Err(refusal) => tell_refusal(&rt, refusal.number(), refusal.offset()),
+    rt.stdin().take(ENOUGH).read_to_end(&mut bytes)?;
+    let mut places = Places::new(rt.alloc())?;
+    match places.ask(bytes.as_slice()) {
+        Ok(sure) => println!(rt; "sure {sure}"),
+        Err(declined) => tell_refusal(&rt, declined.number(), declined.offset()),
     }
 }

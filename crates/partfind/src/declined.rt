@@ -1,7 +1,7 @@
 // Why an input is declined: the first number of question, verdict and file.
 ghost use Rattle.std.specs.Prelude.{◌≡◌};
-ghost use Rattle.partjudge.specs.declared.declined.Declined.TheVariants as declined;
-ghost use Rattle.partjudge.specs.Declining.{number_of, offset_of};
+ghost use Rattle.partfind.specs.declared.declined.Declined.TheVariants as declined;
+ghost use Rattle.partfind.specs.Declining.{number_of, offset_of};
 
 use grammar::Refusal;
 use judging::NotBounded;

@@ -1,8 +1,8 @@
 -- How the program tells why it declines.
 use Rattle.std.specs.Prelude.{ℕ, None, Option}
 use Rattle.grammar.specs.Reading as reading
-use Rattle.partjudge.specs.declared.declined.Declined.{Declined}
-use Rattle.partjudge.specs.declared.declined.Declined.TheVariants.{Text, Verdict, File}
+use Rattle.partfind.specs.declared.declined.Declined.{Declined}
+use Rattle.partfind.specs.declared.declined.Declined.TheVariants.{Text, Verdict, File}
 
 abbrev pub number_of : Declined → ℕ
 number_of (Text e) = reading.number_of e
