@@ -16,7 +16,7 @@ import corpus  # noqa: E402
 import judge  # noqa: E402
 import reader  # noqa: E402
 
-CRATES = os.path.join(os.path.dirname(os.path.abspath(__file__)), "..", "..", "crates")
+CORPUS = os.path.join(os.path.dirname(os.path.abspath(__file__)), "..", "..", "crates", "corpus")
 
 IRI_128 = b"<" + b"i" * 128 + b">"
 IRI_129 = b"<" + b"i" * 129 + b">"
@@ -156,18 +156,18 @@ BY_HAND = [
 ]
 
 
-def differing(crate, texts, results):
-    """How many of a crate's two stored files differ from what is made now."""
+def differing(texts, results):
+    """How many of the corpus's two stored files differ from what is made now."""
     fresh = {
         "stdin": b"".join(text.hex().encode() + b"\n" for text in texts),
         "stdout": b"".join(result + b"\n" for result in results),
     }
     faults = 0
     for name, wanted in fresh.items():
-        with open(os.path.join(CRATES, crate, name), "rb") as stored:
+        with open(os.path.join(CORPUS, name), "rb") as stored:
             if stored.read() != wanted:
                 faults += 1
-                print("crates/%s/%s differs from what is made now" % (crate, name))
+                print("crates/corpus/%s differs from what is made now" % name)
     return faults
 
 
@@ -179,11 +179,9 @@ def main():
             faults += 1
             print("text", text, "\n  by hand", wanted, "\n  reader ", got)
 
-    read = corpus.corpus()
-    faults += differing("corpus", read, [reader.read(text) for text in read])
-    texts = corpus.corpus(border=True)
+    texts = corpus.corpus()
     results = [judge.judge(reader.read(text)) for text in texts]
-    faults += differing("verdicts", texts, results)
+    faults += differing(texts, results)
 
     counts = {}
     for result in results:
@@ -191,7 +189,7 @@ def main():
         if result.startswith(b"ok "):
             kind = "accepted" if b" sure " in result[-8:] else "refused 7"
         counts[kind] = counts.get(kind, 0) + 1
-    print("%d texts by hand, %d read, %d read and judged:" % (len(BY_HAND), len(read), len(texts)))
+    print("%d texts by hand, %d read and judged:" % (len(BY_HAND), len(texts)))
     for kind in sorted(counts):
         print("  %s: %d" % (kind, counts[kind]))
     print("%d faults" % faults)

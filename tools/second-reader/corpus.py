@@ -688,8 +688,7 @@ def orders():
 # ------------------------------------------------------------- the corpus
 
 
-def corpus(border=False):
-    """The texts; with a border, also random questions near what is bounded."""
+def corpus():
     dice = Dice(0x9E3779B97F4A7C15)
     texts = PLAIN + limits() + orders()
     for _ in range(100):
@@ -700,7 +699,7 @@ def corpus(border=False):
         texts.append(spell(dice, lawful(dice, fuel=32 + dice.below(12), depth=4)))
     for _ in range(6):  # more names than may stand
         texts.append(spell(dice, lawful(dice, fuel=25, depth=3, names=NAMES)))
-    for _ in range(320 if border else 0):
+    for _ in range(320):  # near what is bounded, on either side
         texts.append(spell(dice, near_the_border(dice)))
     for damage, count in DAMAGES:
         for _ in range(count):
@@ -709,8 +708,7 @@ def corpus(border=False):
 
 
 def main():
-    border = sys.argv[1:] == ["--border"]
-    sys.stdout.write("".join(text.hex() + "\n" for text in corpus(border)))
+    sys.stdout.write("".join(text.hex() + "\n" for text in corpus()))
 
 
 if __name__ == "__main__":
