@@ -11,7 +11,7 @@ use Rattle.question.specs.declared.node.PathNode.{PathNode}
 use Rattle.question.specs.declared.node.PathNode.TheVariants as path
 use Rattle.question.specs.declared.node.PatternNode.{PatternNode}
 use Rattle.question.specs.declared.node.PatternNode.TheVariants as pattern
-use Rattle.question.specs.Nodes.{meant_path_at, meant_paths, meant_path, meant_patterns, meant_pattern, env_of_names}
+use Rattle.question.specs.Arena.{path_at, paths_of, path_of, patterns_of, pattern_of}
 use Rattle.question.specs.Asking.{asked}
 use Rattle.question.specs.Behind.{path_from, pattern_from, pattern_names}
 use Rattle.question.specs.Parts.{env_of}
@@ -22,9 +22,9 @@ use Rattle.judging.proofs.Placed.{PathThere, PatternThere, ends_there, mask_as, 
 -- ---- paths
 
 abbrev SamePath : {S T : Type 0} → (ℕ → S) → (ℕ → T) → Question → ℕ → Type 0
-SamePath f g q i = (l r : Bool) → walkable (meant_path_at (meant_paths f (items q.paths)) i) l r ≡ walkable (meant_path_at (meant_paths g (items q.paths)) i) l r
+SamePath f g q i = (l r : Bool) → walkable (path_at (paths_of f (items q.paths)) i) l r ≡ walkable (path_at (paths_of g (items q.paths)) i) l r
 
-same_node : {S T : Type 0} (f : ℕ → S) (g : ℕ → T) (q : Question) (i : ℕ) (n : PathNode) → path_from n ≤ i → ((j : ℕ) → j < i → SamePath f g q j) → (l r : Bool) → walkable (meant_path f (meant_paths f (items q.paths)) n) l r ≡ walkable (meant_path g (meant_paths g (items q.paths)) n) l r
+same_node : {S T : Type 0} (f : ℕ → S) (g : ℕ → T) (q : Question) (i : ℕ) (n : PathNode) → path_from n ≤ i → ((j : ℕ) → j < i → SamePath f g q j) → (l r : Bool) → walkable (path_of f (paths_of f (items q.paths)) n) l r ≡ walkable (path_of g (paths_of g (items q.paths)) n) l r
 same_node f g q i (path.Link t) le h l r = refl
 same_node f g q i (path.Negated first count) le h l r = refl
 same_node f g q i (path.Inverse p) le h l r = h p (omega arith) r l
@@ -60,8 +60,8 @@ SamePattern numbers q i = ((m : ℕ) → judged (asks_by numbers q i) m ≡ judg
 
 -- what a node's verdict says of numbers and of names
 record SameNode (numbers : List ℕ) (q : Question) (n : PatternNode) : Type 0 where
-  verdict : (m : ℕ) → judged (meant_pattern (by_number numbers q) (meant_patterns (by_number numbers q) (items q.patterns)) n) m ≡ judged (numbered (asked q).names (meant_pattern (env_of_names (env_of q)) (meant_patterns (env_of_names (env_of q)) (items q.patterns)) n)) m
-  mask : sure_mask (meant_pattern (by_number numbers q) (meant_patterns (by_number numbers q) (items q.patterns)) n) ≡ sure_mask (numbered (asked q).names (meant_pattern (env_of_names (env_of q)) (meant_patterns (env_of_names (env_of q)) (items q.patterns)) n))
+  verdict : (m : ℕ) → judged (pattern_of (by_number numbers q) (patterns_of (by_number numbers q) (items q.patterns)) n) m ≡ judged (numbered (asked q).names (pattern_of (env_of q) (patterns_of (env_of q) (items q.patterns)) n)) m
+  mask : sure_mask (pattern_of (by_number numbers q) (patterns_of (by_number numbers q) (items q.patterns)) n) ≡ sure_mask (numbered (asked q).names (pattern_of (env_of q) (patterns_of (env_of q) (items q.patterns)) n))
 
 same_pattern_node : (numbers : List ℕ) (q : Question) (i : ℕ) (n : PatternNode) → pattern_from n ≤ i → pattern_names n ≤ length (asked q).names → ((j : ℕ) → j < i → SamePattern numbers q j) → SameNode numbers q n
 same_pattern_node numbers q i pattern.Empty le names h = record { verdict = λ m. refl; mask = refl }
@@ -102,13 +102,13 @@ below_pattern numbers q (suc n) i lt = go (ltb i (length (items q.patterns))) re
     go false e h =
         let past = ltb-false i (length (items q.patterns)) e in
         let x = no_pattern (by_number numbers q) q i past in
-        let y = ap (numbered (asked q).names) (no_pattern (env_of_names (env_of q)) q i past) in
+        let y = ap (numbered (asked q).names) (no_pattern (env_of q) q i past) in
         ((λ m. ap (λ p. judged p m) x ∙ sym (ap (λ p. judged p m) y)), ap sure_mask x ∙ sym (ap sure_mask y))
     go true e h =
         let node = get_or (items q.patterns) i pattern.Empty in
         let t = pattern_there q i (ltb-true i (length (items q.patterns)) e) in
         let x = pattern_is_lem (by_number numbers q) q i node t in
-        let y = ap (numbered (asked q).names) (pattern_is_lem (env_of_names (env_of q)) q i node t) in
+        let y = ap (numbered (asked q).names) (pattern_is_lem (env_of q) q i node t) in
         let same = same_pattern_node numbers q i node (pattern_behind q i node t) (ends_there q i node node t refl) h in
         ((λ m. ap (λ p. judged p m) x ∙ same.verdict m ∙ sym (ap (λ p. judged p m) y)), ap sure_mask x ∙ same.mask ∙ sym (ap sure_mask y))
 

@@ -7,7 +7,7 @@ use Rattle.grammar.specs.Judged.{judged, sure_mask}
 use Rattle.grammar.specs.Numbered.{numbered, numbered_end}
 use Rattle.question.specs.declared.question.Question.{Question}
 use Rattle.question.specs.declared.node.End.{End}
-use Rattle.question.specs.Nodes.{EnvOf, meant_path_at, meant_paths, meant_pattern_at, meant_patterns}
+use Rattle.question.specs.Arena.{EnvOf, path_at, paths_of, pattern_at, patterns_of}
 use Rattle.question.specs.Asking.{asked}
 use Rattle.question.specs.Parts.{end_at, path_is, pattern_is}
 
@@ -19,13 +19,13 @@ asks_at q i = numbered (asked q).names (pattern_is q i)
 abbrev pub by_number : List ℕ → Question → EnvOf ℕ ℕ
 by_number numbers q =
     let term = λ (i : ℕ). slice_index_or numbers i 0 in
-    record { term = term; name = λ v. v; path = λ i. meant_path_at (meant_paths term (items q.paths)) i }
+    record { term = term; name = λ v. v; path = λ i. path_at (paths_of term (items q.paths)) i }
 
 abbrev pub path_by : List ℕ → Question → ℕ → Path ℕ
 path_by numbers q i = (by_number numbers q).path i
 
 abbrev pub asks_by : List ℕ → Question → ℕ → Pattern ℕ ℕ
-asks_by numbers q i = meant_pattern_at (meant_patterns (by_number numbers q) (items q.patterns)) i
+asks_by numbers q i = pattern_at (patterns_of (by_number numbers q) (items q.patterns)) i
 
 abbrev pub line_at : Question → End ℕ → ℕ → End ℕ → Asks
 line_at q a p b = line (numbered_end (asked q).names (end_at q a)) (path_is q p) (numbered_end (asked q).names (end_at q b))

@@ -3,14 +3,14 @@ ghost use Rattle.std.specs.Prelude.{◌≡◌, ℕ};
 ghost use Rattle.grammar.specs.Bounded.{fixed as known};
 ghost use Rattle.grammar.specs.Judged.{end_mask};
 ghost use Rattle.grammar.specs.Masks.{member};
-ghost use Rattle.question.specs.Nodes.{meant_end};
+ghost use Rattle.question.specs.Arena.{end_of};
 ghost use Rattle.judging.specs.Judging.{how_many};
 
 use question::End;
 
 // The variable of an end, whatever its term stands for.
 pub fn mask_of(end: End<usize>) -> u8
-    ensures { (term : ℕ → ℕ) → result ≡ end_mask (meant_end term (λ v. v) end) }
+    ensures { (term : ℕ → ℕ) → result ≡ end_mask (end_of term (λ v. v) end) }
 {
     match end {
         End::Term(_) => 0,
@@ -20,7 +20,7 @@ pub fn mask_of(end: End<usize>) -> u8
 
 // Whether the term at an end is known, whatever it stands for.
 pub fn is_fixed(end: End<usize>, fixed: u8) -> bool
-    ensures { (term : ℕ → ℕ) → result ≡ known (member fixed) (meant_end term (λ v. v) end) }
+    ensures { (term : ℕ → ℕ) → result ≡ known (member fixed) (end_of term (λ v. v) end) }
 {
     match end {
         End::Term(_) => true,

@@ -8,8 +8,7 @@ use Rattle.question.specs.declared.node.PathNode.{PathNode}
 use Rattle.question.specs.declared.node.PathNode.TheVariants as path
 use Rattle.question.specs.declared.node.PatternNode.{PatternNode}
 use Rattle.question.specs.declared.node.PatternNode.TheVariants as pattern
-use Rattle.question.specs.Arena.{grow}
-use Rattle.question.specs.Nodes.{EnvOf, meant_path_at, meant_pattern_at, meant_path, meant_pattern, meant_paths, meant_patterns}
+use Rattle.question.specs.Arena.{grow, EnvOf, path_at, pattern_at, path_of, pattern_of, paths_of, patterns_of}
 use Rattle.question.specs.Answers.{Told}
 use Rattle.question.specs.Behind.{path_from, pattern_from}
 
@@ -62,25 +61,25 @@ whole h ns i n d t = ap (λ l. get_or (grow h [] l) i d) (sym (take_all (length 
 
 -- ---- in a question, whatever its terms and variables stand for
 
-path_parts : {T : Type 0} (f : ℕ → T) (ns : List PathNode) (i : ℕ) (n : PathNode) → path_from n ≤ i → i ≤ length ns → meant_path f (meant_paths f (take i ns)) n ≡ meant_path f (meant_paths f ns) n
+path_parts : {T : Type 0} (f : ℕ → T) (ns : List PathNode) (i : ℕ) (n : PathNode) → path_from n ≤ i → i ≤ length ns → path_of f (paths_of f (take i ns)) n ≡ path_of f (paths_of f ns) n
 path_parts f ns i (path.Link t) le lt = refl
 path_parts f ns i (path.Negated first count) le lt = refl
-path_parts f ns i (path.Inverse p) le lt = ap inverse (earlier (meant_path f) ns i p (negated []) (omega arith) lt)
-path_parts f ns i (path.Star p) le lt = ap star (earlier (meant_path f) ns i p (negated []) (omega arith) lt)
+path_parts f ns i (path.Inverse p) le lt = ap inverse (earlier (path_of f) ns i p (negated []) (omega arith) lt)
+path_parts f ns i (path.Star p) le lt = ap star (earlier (path_of f) ns i p (negated []) (omega arith) lt)
 path_parts f ns i (path.Sequence p r) le lt =
-    ap₂ sequence (earlier (meant_path f) ns i p (negated []) (omega arith) lt) (earlier (meant_path f) ns i r (negated []) (omega arith) lt)
+    ap₂ sequence (earlier (path_of f) ns i p (negated []) (omega arith) lt) (earlier (path_of f) ns i r (negated []) (omega arith) lt)
 path_parts f ns i (path.Alternative p r) le lt =
-    ap₂ alternative (earlier (meant_path f) ns i p (negated []) (omega arith) lt) (earlier (meant_path f) ns i r (negated []) (omega arith) lt)
+    ap₂ alternative (earlier (path_of f) ns i p (negated []) (omega arith) lt) (earlier (path_of f) ns i r (negated []) (omega arith) lt)
 
-pattern_parts : {T V : Type 0} (e : EnvOf T V) (ns : List PatternNode) (i : ℕ) (n : PatternNode) → pattern_from n ≤ i → i ≤ length ns → meant_pattern e (meant_patterns e (take i ns)) n ≡ meant_pattern e (meant_patterns e ns) n
+pattern_parts : {T V : Type 0} (e : EnvOf T V) (ns : List PatternNode) (i : ℕ) (n : PatternNode) → pattern_from n ≤ i → i ≤ length ns → pattern_of e (patterns_of e (take i ns)) n ≡ pattern_of e (patterns_of e ns) n
 pattern_parts e ns i pattern.Empty le lt = refl
 pattern_parts e ns i (pattern.Line l) le lt = refl
 pattern_parts e ns i (pattern.And p r) le lt =
-    ap₂ and (earlier (meant_pattern e) ns i p empty (omega arith) lt) (earlier (meant_pattern e) ns i r empty (omega arith) lt)
+    ap₂ and (earlier (pattern_of e) ns i p empty (omega arith) lt) (earlier (pattern_of e) ns i r empty (omega arith) lt)
 pattern_parts e ns i (pattern.Union p r) le lt =
-    ap₂ union (earlier (meant_pattern e) ns i p empty (omega arith) lt) (earlier (meant_pattern e) ns i r empty (omega arith) lt)
+    ap₂ union (earlier (pattern_of e) ns i p empty (omega arith) lt) (earlier (pattern_of e) ns i r empty (omega arith) lt)
 pattern_parts e ns i (pattern.Opt p r) le lt =
-    ap₂ opt (earlier (meant_pattern e) ns i p empty (omega arith) lt) (earlier (meant_pattern e) ns i r empty (omega arith) lt)
+    ap₂ opt (earlier (pattern_of e) ns i p empty (omega arith) lt) (earlier (pattern_of e) ns i r empty (omega arith) lt)
 
 -- the children of a node stand before it
 pub path_behind : (q : Question) (i : ℕ) (n : PathNode) → Told (λ (x y : PathNode). x ≡ y) (items q.paths) i (Some n) → path_from n ≤ i
@@ -90,15 +89,15 @@ pub pattern_behind : (q : Question) (i : ℕ) (n : PatternNode) → Told (λ (x 
 pattern_behind q i n t = omega (arith, q.patterns_from i, ap pattern_from (t.2.is pattern.Empty ∙ sym t.1))
 
 -- what stands at an index, by the node there
-pub path_is_lem : {T : Type 0} (f : ℕ → T) (q : Question) (i : ℕ) (n : PathNode) → Told (λ (x y : PathNode). x ≡ y) (items q.paths) i (Some n) → meant_path_at (meant_paths f (items q.paths)) i ≡ meant_path f (meant_paths f (items q.paths)) n
-path_is_lem f q i n t = whole (meant_path f) (items q.paths) i n (negated []) t ∙ path_parts f (items q.paths) i n (path_behind q i n t) (omega (arith, t.2.within))
+pub path_is_lem : {T : Type 0} (f : ℕ → T) (q : Question) (i : ℕ) (n : PathNode) → Told (λ (x y : PathNode). x ≡ y) (items q.paths) i (Some n) → path_at (paths_of f (items q.paths)) i ≡ path_of f (paths_of f (items q.paths)) n
+path_is_lem f q i n t = whole (path_of f) (items q.paths) i n (negated []) t ∙ path_parts f (items q.paths) i n (path_behind q i n t) (omega (arith, t.2.within))
 
-pub pattern_is_lem : {T V : Type 0} (e : EnvOf T V) (q : Question) (i : ℕ) (n : PatternNode) → Told (λ (x y : PatternNode). x ≡ y) (items q.patterns) i (Some n) → meant_pattern_at (meant_patterns e (items q.patterns)) i ≡ meant_pattern e (meant_patterns e (items q.patterns)) n
-pattern_is_lem e q i n t = whole (meant_pattern e) (items q.patterns) i n empty t ∙ pattern_parts e (items q.patterns) i n (pattern_behind q i n t) (omega (arith, t.2.within))
+pub pattern_is_lem : {T V : Type 0} (e : EnvOf T V) (q : Question) (i : ℕ) (n : PatternNode) → Told (λ (x y : PatternNode). x ≡ y) (items q.patterns) i (Some n) → pattern_at (patterns_of e (items q.patterns)) i ≡ pattern_of e (patterns_of e (items q.patterns)) n
+pattern_is_lem e q i n t = whole (pattern_of e) (items q.patterns) i n empty t ∙ pattern_parts e (items q.patterns) i n (pattern_behind q i n t) (omega (arith, t.2.within))
 
 -- nothing stands past the last node
-pub no_path : {T : Type 0} (f : ℕ → T) (q : Question) (i : ℕ) → length (items q.paths) ≤ i → meant_path_at (meant_paths f (items q.paths)) i ≡ negated []
-no_path f q i le = nothing_there (meant_path f) (items q.paths) i (negated []) le
+pub no_path : {T : Type 0} (f : ℕ → T) (q : Question) (i : ℕ) → length (items q.paths) ≤ i → path_at (paths_of f (items q.paths)) i ≡ negated []
+no_path f q i le = nothing_there (path_of f) (items q.paths) i (negated []) le
 
-pub no_pattern : {T V : Type 0} (e : EnvOf T V) (q : Question) (i : ℕ) → length (items q.patterns) ≤ i → meant_pattern_at (meant_patterns e (items q.patterns)) i ≡ empty
-no_pattern e q i le = nothing_there (meant_pattern e) (items q.patterns) i empty le
+pub no_pattern : {T V : Type 0} (e : EnvOf T V) (q : Question) (i : ℕ) → length (items q.patterns) ≤ i → pattern_at (patterns_of e (items q.patterns)) i ≡ empty
+no_pattern e q i le = nothing_there (pattern_of e) (items q.patterns) i empty le

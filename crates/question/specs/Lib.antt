@@ -3,7 +3,6 @@ pub mod Answers
 pub mod Arena
 pub mod Asking
 pub mod Behind
-pub mod Nodes
 pub mod Outcomes
 pub mod Parts
 pub mod Views

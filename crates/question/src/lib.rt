@@ -8,7 +8,6 @@ mod copy;
 mod draft;
 mod expect;
 mod joins;
-mod laws;
 mod node;
 mod paths;
 mod patterns;
@@ -21,7 +20,6 @@ mod spelled;
 mod start;
 
 pub use draft::Draft;
-pub use laws::nodes_stand_alike;
 pub use node::{End, Line, PathNode, PatternNode, Variable};
 pub use question::Question;
 pub use span::{Span, TermSpan};
