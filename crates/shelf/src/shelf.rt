@@ -1,3 +1,5 @@
+ghost use Rattle.std.specs.Prelude.{◌≤◌, length};
+
 use crate::items::{Listed, Noted};
 use terms::Kind;
 
@@ -8,4 +10,6 @@ pub struct Shelf<'a> {
     pub kinds: &'a [Kind],
     pub noted: &'a [Noted],
     pub triples: &'a [Listed],
+    // As many terms as a session may keep.
+    ghost few: { length kinds.now ≤ 1024 },
 }

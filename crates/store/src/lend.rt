@@ -1,6 +1,7 @@
 // What is kept, to read.
-ghost use Rattle.std.specs.Prelude.{◌≡◌, length};
+ghost use Rattle.std.specs.Prelude.{◌≡◌, length, map};
 ghost use Rattle.room.specs.Items.{items};
+ghost use Rattle.lexicon.specs.Held.{kind_of};
 ghost use Rattle.store.specs.State.{no_entry_number, placed, traced};
 ghost use Rattle.store.specs.View.{view};
 
@@ -8,7 +9,7 @@ use crate::record::Entry;
 use crate::refusals::NoEntry;
 use crate::store::Store;
 use lexicon::Lexicon;
-use shelf::{Listed, Noted};
+use shelf::{Listed, Noted, Shelf};
 
 impl NoEntry {
     pub fn number(self) -> u8
@@ -39,6 +40,19 @@ impl Store {
         ensures { result.now ≡ placed 0 (view self.now).entries }
     {
         self.noted.as_slice()
+    }
+
+    // The documents at hand, as an evaluation reads them.
+    pub fn shelf(&self) -> Shelf<'_>
+        ensures kinds { result.kinds.now ≡ map kind_of (view self.now).terms }
+        ensures noted { result.noted.now ≡ placed 0 (view self.now).entries }
+        ensures triples { result.triples.now ≡ (view self.now).triples }
+    {
+        Shelf {
+            kinds: self.documents.terms.kinds(),
+            noted: self.noted(),
+            triples: self.triples(),
+        }
     }
 
     // The numbers of the terms of the question that entered last, by their place in its text.
