@@ -153,7 +153,7 @@ all_iris t e =
     short : (n : ℕ) → leb n 128 ≡ true → n ≤ 128
     short n h = grind arith
 
-pub every_web_has_its_universe : EveryWebHasItsUniverse
+pub every_web_has_its_universe : {V : Type 0} → EveryWebHasItsUniverse V
 every_web_has_its_universe found lawful p = (
   unique by_bytes_exact listed,
   record {
