@@ -5,6 +5,6 @@ mod joins;
 mod order;
 mod row;
 
-pub use joins::{blank, compatible, merge, same};
+pub use joins::{blank, compatible, merge, numbers_are_exact, same};
 pub use order::{ascending, rows_are_ordered};
 pub use row::Row;
