@@ -1,5 +1,6 @@
 pub mod Bytes
 pub mod Codings
+pub mod Giving
 pub mod Integrals
 pub mod Lines
 pub mod Links
