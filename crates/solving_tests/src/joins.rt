@@ -1,4 +1,4 @@
-use rows::{Row, ascending, compatible, merge, same};
+use rows::{Row, ascending, blank, compatible, merge, same};
 
 // Two rows, whether they are compatible, and their merge.
 const ROWS: [([u16; 8], [u16; 8], bool, [u16; 8]); 6] = [
@@ -44,6 +44,25 @@ fn joins(rt: HostRuntime) {
         assert!(rt; compatible(left, right) == agree && compatible(right, left) == agree);
         assert!(rt; same(merge(left, right), Row { places: both }));
     }
+}
+
+// Rows that differ in one place, in different terms or since only one gives a term there.
+const APART: [([u16; 8], [u16; 8]); 4] = [
+    ([3, 0, 0, 0, 0, 0, 0, 0], [4, 0, 0, 0, 0, 0, 0, 0]),
+    ([1, 2, 3, 4, 5, 6, 7, 8], [1, 2, 3, 4, 5, 6, 7, 9]),
+    ([3, 4, 0, 0, 0, 0, 0, 0], [3, 0, 0, 0, 0, 0, 0, 0]),
+    ([0; 8], [0, 0, 0, 0, 0, 0, 0, 1]),
+];
+
+#[test]
+fn sameness(rt: HostRuntime) {
+    for (left, right) in APART {
+        let left = Row { places: left };
+        let right = Row { places: right };
+        assert!(rt; !same(left, right) && !same(right, left));
+        assert!(rt; same(left, left) && same(right, right));
+    }
+    assert!(rt; same(blank(), Row { places: [0; 8] }));
 }
 
 // Rows in their order. Unbound comes first, and an earlier place decides.
