@@ -1,20 +1,13 @@
 -- The file of four pages is a Web, and the terms listed are its universe. What its questions solve to is found by computing.
-use Rattle.std.proofs.Common.{◌≡◌, Bool, true, false, cond, List, [], refl, ap, ◌∙◌, inl, inr}
+use Rattle.std.proofs.Common.{◌≡◌, true, refl, ap, inl, inr}
 use Rattle.terms.specs.Terms.{Term}
 use Rattle.semantics.specs.Terms.{In, has}
-use Rattle.semantics.specs.Webs.{Triple, terms_in, terms_listed, Met, Universe, by_bytes, lawful_iri, Found}
+use Rattle.semantics.specs.Webs.{terms_in, terms_listed, Met, Universe, by_bytes, Found}
 use Rattle.semantics.proofs.Lists.{clash, has_in}
 use Rattle.semantics.proofs.Bytes.{by_bytes_exact}
 use Rattle.samples.specs.File.{m1, m2, m3, m4, found, universe, Asked}
-use Rattle.samples.proofs.Lists.{each_passes, within, within_has, page_within}
+use Rattle.samples.proofs.Lists.{each_passes, within, within_has, page_within, lawful_page}
 use Rattle.samples.specs.Shown.{FileIsAWeb, walked}
-
-lawful_page : (t p : Term) (page rest : List (Triple Term)) → lawful_iri p ≡ true → lawful_iri t ≡ false → rest ≡ [] → cond (by_bytes.same t p) page rest ≡ []
-lawful_page t p page rest h e r = pick (by_bytes.same t p) refl
-  where
-    pick : (b : Bool) → by_bytes.same t p ≡ b → cond b page rest ≡ []
-    pick true d = clash (ap lawful_iri (by_bytes_exact.tells t p d) ∙ h) e
-    pick false d = r
 
 a_web : Found found
 a_web t e = lawful_page t m1 _ _ refl e (lawful_page t m2 _ _ refl e (lawful_page t m3 _ _ refl e (lawful_page t m4 _ _ refl e refl)))

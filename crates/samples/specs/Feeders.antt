@@ -1,7 +1,7 @@
 -- The capacitor that filled two feeders. Board b:7 places c:1 and c:2, each of which has c:3 for a substitute, and c:3 fits feeders f:1 and f:2.
 -- Two planners ask which substitutes fit which feeders, with the halves of the question in opposite order.
 use Rattle.std.specs.Prelude.{◌≡◌, ℕ, true, cond, List, [], ◌∷◌, Some, codes as spelled, Option}
-use Rattle.weights.specs.Kinds.{Kind}
+use Rattle.weights.specs.Kinds.{Kind, Lawful}
 use Rattle.weights.specs.Codes.{counting, presence}
 use Rattle.terms.specs.Terms.{Term}
 use Rattle.grammar.specs.Syntax.{link, inverse, sequence, constant, variable, Pattern, line, and}
@@ -13,7 +13,7 @@ use Rattle.semantics.specs.Meaning.{weight_in, solutions}
 use Rattle.semantics.specs.Alike.{Alike}
 use Rattle.grammar.specs.Numbered.{numbered}
 use Rattle.semantics.specs.Named.{Names, row_by}
-use Rattle.semantics.specs.Webs.{Triple, graph_of, by_bytes}
+use Rattle.semantics.specs.Webs.{Triple, graph_of, Universe, by_bytes, Found}
 use Rattle.walks.specs.Needs.{needs}
 use Rattle.walks.specs.Promises.{whole}
 use Rattle.samples.specs.File.{triple}
@@ -52,8 +52,11 @@ found t =
     (cond (by_bytes.same t c2) (triple c2 alt c3 ∷ [])
     (cond (by_bytes.same t c3) (triple c3 fits f1 ∷ triple c3 fits f2 ∷ []) [])))
 
+abbrev pub universe : List Term
+universe = b7 ∷ c1 ∷ c2 ∷ c3 ∷ f1 ∷ f2 ∷ place ∷ alt ∷ fits ∷ []
+
 abbrev pub graph : Graph Term
-graph = graph_of by_bytes found (b7 ∷ c1 ∷ c2 ∷ c3 ∷ f1 ∷ f2 ∷ place ∷ alt ∷ fits ∷ [])
+graph = graph_of by_bytes found universe
 
 -- ---- the two questions, by name
 
@@ -87,6 +90,10 @@ second_names = feeder ∷ capacitor ∷ []
 abbrev pub TwoOrdersOfOneQuestion : Type 0
 TwoOrdersOfOneQuestion = Alike first second × Names first first_names × Names second second_names
 
+-- the documents are a Web, and the terms listed are its universe for either question
+abbrev pub FeedersAreAWeb : Type 0
+FeedersAreAWeb = Found found × Universe by_bytes found first universe × Universe by_bytes found second universe
+
 abbrev pub solved : Kind → List Name → Pattern Term Name → Bag Term ℕ
 solved k names p = solutions by_bytes graph k (numbered names p)
 
@@ -102,11 +109,12 @@ ListsOfPresence =
     (solved presence first_names first ≡ (Some c3 ∷ Some f1 ∷ [], 1) ∷ (Some c3 ∷ Some f2 ∷ [], 1) ∷ [])
     × (solved presence second_names second ≡ (Some f1 ∷ Some c3 ∷ [], 1) ∷ (Some f2 ∷ Some c3 ∷ [], 1) ∷ [])
 
--- so both lists are one, by name and term
+-- so both lists are one, by name and term, and not for these two kinds alone
 abbrev pub OneListByName : Type 0
-OneListByName = (solution : Name → Option Term)
-    → weight_in by_bytes graph counting (numbered first_names first) (row_by first_names solution)
-    ≡ weight_in by_bytes graph counting (numbered second_names second) (row_by second_names solution)
+OneListByName =
+    (k : Kind) → Lawful k → (solution : Name → Option Term)
+    → weight_in by_bytes graph k (numbered first_names first) (row_by first_names solution)
+    ≡ weight_in by_bytes graph k (numbered second_names second) (row_by second_names solution)
 
 abbrev pub BothCanBeWalked : Type 0
 BothCanBeWalked = (judged (numbered first_names first) 0 ≡ true) × (judged (numbered second_names second) 0 ≡ true)

@@ -1,10 +1,11 @@
 ghost use Rattle.samples.specs.Texts.{PlannersAskThem};
-ghost use Rattle.samples.specs.Feeders.{TwoOrdersOfOneQuestion, FirstList, SecondList, ListsOfPresence, OneListByName, BothCanBeWalked, OneSetOfDocuments};
+ghost use Rattle.samples.specs.Feeders.{TwoOrdersOfOneQuestion, FeedersAreAWeb, FirstList, SecondList, ListsOfPresence, OneListByName, BothCanBeWalked, OneSetOfDocuments};
 
 // The capacitor that filled two feeders: one question in two orders, with one list.
 pub fn feeders_show_it()
     ensures texts { PlannersAskThem }
     ensures alike { TwoOrdersOfOneQuestion }
+    ensures web { FeedersAreAWeb }
     ensures first { FirstList }
     ensures second { SecondList }
     ensures presence { ListsOfPresence }
