@@ -1,3 +1,4 @@
+pub mod Books
 pub mod Lists
 pub mod Orders
 pub mod Pages

@@ -4,3 +4,4 @@ pub mod Shelf
 pub mod Shown
 pub mod Static
 pub mod Texts
+pub mod Written

@@ -3,6 +3,7 @@ ghost use Rattle.samples.specs.Shown.{InverseGoesBackwards, AContextHasOneSubjec
 ghost use Rattle.samples.specs.Shown.{NothingIsHandedIntoAnOption, AlternativesAdd, LiteralReachesItself, TheOthersAreBounded, FileIsAWeb};
 ghost use Rattle.samples.specs.Texts.{TextsAskThem};
 ghost use Rattle.samples.specs.Shelf.{ThreePagesSuffice};
+ghost use Rattle.samples.specs.Written.{FileIsWritten};
 ghost use Rattle.samples.specs.Shown.{PagesThatAreNeeded};
 
 // Eleven questions over a file of four pages.
@@ -23,4 +24,5 @@ pub fn pages_show_it()
     ensures needed { PagesThatAreNeeded }
     ensures suffice { ThreePagesSuffice }
     ensures web { FileIsAWeb }
+    ensures file { FileIsWritten }
 {}

@@ -1,3 +1,4 @@
+use Rattle.samples.proofs.Books.{feeders_are_written}
 use Rattle.samples.proofs.Reading.{planners_ask_them}
 use Rattle.samples.proofs.Orders.{two_orders_of_one_question, one_list_by_name, feeders_are_a_web}
 use Rattle.samples.proofs.feeders.feeders_show_it.Goals as goal
@@ -13,3 +14,6 @@ returns-clause-web c = feeders_are_a_web
 
 pub returns-clause-names : goal.returns-clause-names
 returns-clause-names c = one_list_by_name
+
+pub returns-clause-file : goal.returns-clause-file
+returns-clause-file c = feeders_are_written

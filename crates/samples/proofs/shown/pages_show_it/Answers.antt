@@ -1,3 +1,4 @@
+use Rattle.samples.proofs.Books.{file_is_written}
 use Rattle.samples.proofs.Reading.{texts_ask_them}
 use Rattle.samples.proofs.Pages.{file_is_a_web}
 use Rattle.samples.proofs.shown.pages_show_it.Goals as goal
@@ -7,3 +8,6 @@ returns-clause-texts c = texts_ask_them
 
 pub returns-clause-web : goal.returns-clause-web
 returns-clause-web c = file_is_a_web
+
+pub returns-clause-file : goal.returns-clause-file
+returns-clause-file c = file_is_written
