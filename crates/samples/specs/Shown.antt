@@ -26,9 +26,6 @@ gives_both x v = Some x ∷ Some v ∷ []
 abbrev pub TwoWaysCountTwo : Type 0
 TwoWaysCountTwo = solved counting value_of_substitutes ≡ (gives ten, 2) ∷ []
 
-abbrev pub PresenceCountsNoWays : Type 0
-PresenceCountsNoWays = solved presence value_of_substitutes ≡ (gives ten, 1) ∷ []
-
 abbrev pub StarBeginsWhereItStands : Type 0
 StarBeginsWhereItStands = solved counting all_substitutes ≡ (gives m1, 1) ∷ (gives m2, 1) ∷ (gives m3, 1) ∷ []
 
@@ -59,6 +56,19 @@ AlternativesAdd = solved counting either_of_two ≡ (gives m2, 2) ∷ (gives m3,
 
 abbrev pub LiteralReachesItself : Type 0
 LiteralReachesItself = solved counting from_literal ≡ (gives ten, 1) ∷ []
+
+-- the same solutions, each of weight one, for every question that can be walked
+abbrev pub PresenceCountsNoWays : Type 0
+PresenceCountsNoWays =
+    (solved presence value_of_substitutes ≡ (gives ten, 1) ∷ [])
+    × (solved presence all_substitutes ≡ (gives m1, 1) ∷ (gives m2, 1) ∷ (gives m3, 1) ∷ [])
+    × (solved presence whom_it_names ≡ (gives m2, 1) ∷ (gives m3, 1) ∷ [])
+    × (solved presence any_other_fact ≡ (gives ten, 1) ∷ [])
+    × (solved presence nothing ≡ ([], 1) ∷ [])
+    × (solved presence value_if_given ≡ (gives_both m2 ten, 1) ∷ (gives_both m3 ten, 1) ∷ [])
+    × (solved presence same_value_as_another ≡ [])
+    × (solved presence either_of_two ≡ (gives m2, 1) ∷ (gives m3, 1) ∷ [])
+    × (solved presence from_literal ≡ (gives ten, 1) ∷ [])
 
 -- all but one can be walked
 abbrev pub walked : List Asked
