@@ -23,7 +23,8 @@ use Rattle.web.specs.Meaning.{Looked, absent, triples}
 use Rattle.webs_meant.specs.Finding.{as_triples, found_of}
 use Rattle.samples.specs.File as file
 use Rattle.samples.specs.Feeders as feeders
-use Rattle.samples.specs.Written.{four_pages, feeder_pages, Means, FileIsWritten, FeedersAreWritten}
+use Rattle.samples.specs.Weighed as weighed
+use Rattle.samples.specs.Written.{four_pages, feeder_pages, weighed_pages, Means, FileIsWritten, FeedersAreWritten, WeighedIsWritten}
 use Rattle.samples.proofs.Lists.{each_passes}
 
 -- a page is an IRI with its triples
@@ -246,7 +247,7 @@ module _ (bytes : List ℕ) (pages : List Page) (b : Book bytes pages) where
   means : {V : Type 0} → Means V bytes (in_book pages)
   means = record { lists = lists; graph = same_graph; universe = same_universe }
 
--- ---- the two files
+-- ---- the files
 
 abbrev file_book : List Page
 file_book =
@@ -277,3 +278,18 @@ feeders_read = record { short = refl; opens = refl; each = (refl, (refl, (refl, 
 
 pub feeders_are_written : FeedersAreWritten
 feeders_are_written = means feeder_pages feeder_book feeders_read
+
+abbrev weighed_book : List Page
+weighed_book = (
+  weighed.a1,
+  file.triple weighed.a1 weighed.alt weighed.x1 ∷ file.triple weighed.a1 weighed.alt weighed.x1 ∷ file.triple weighed.a1 weighed.alt weighed.x2 ∷ file.triple weighed.a1 weighed.like weighed.x2 ∷ [],
+)
+    ∷ (weighed.x1, file.triple weighed.x1 weighed.val weighed.ten ∷ [])
+    ∷ []
+
+weighed_reads : Book weighed_pages weighed_book
+unfolding lines says lines_on
+weighed_reads = record { short = refl; opens = refl; each = (refl, (refl, tt)); named = refl; distinct = (refl, (refl, tt)); subjects = refl }
+
+pub weighed_is_written : WeighedIsWritten
+weighed_is_written = means weighed_pages weighed_book weighed_reads

@@ -3,3 +3,4 @@ pub mod Lists
 pub mod Orders
 pub mod Pages
 pub mod Reading
+pub mod Weighing

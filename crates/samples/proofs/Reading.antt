@@ -12,8 +12,9 @@ use Rattle.grammar.specs.Reading.{words}
 use Rattle.grammar.specs.Numbered.{numbered}
 use Rattle.semantics.proofs.Lists.{clash}
 use Rattle.samples.specs.File.{Asked, value_of_substitutes, all_substitutes, who_names_it, whom_it_names, any_other_fact, nothing as asks_nothing, value_if_given, same_value_as_another, either_of_two, from_literal}
+use Rattle.samples.specs.Weighed.{substitutes, anything_but_a_value, with_value, two_ways_with_value}
 use Rattle.samples.specs.Feeders.{first_names, second_names, first, second}
-use Rattle.samples.specs.Texts.{Asks, TextsAskThem, AsksNamed, PlannersAskThem}
+use Rattle.samples.specs.Texts.{Asks, TextsAskThem, TextsAskForWeights, AsksNamed, PlannersAskThem}
 
 -- ---- a text is a question, by computing
 
@@ -128,6 +129,39 @@ literal = asks (codes "{ \"10u\" <p:alt>* ?x . }")
 
 pub texts_ask_them : TextsAskThem
 texts_ask_them = (values, all, naming, named, others, none, given, again, either, literal)
+
+-- ---- the questions about weights
+
+abbrev leading : Tree is_path → Tree is_item
+leading p = row (end_iri (codes "a:1")) p (end_name (codes "x"))
+
+abbrev if_valued : Tree is_item
+if_valued = an_option (braces (items (row (end_name (codes "x")) (step (predicate (codes "p:val"))) (end_name (codes "v"))) no_items))
+
+one_way : Asks (codes "{ <a:1> <p:alt> ?x . }") substitutes
+unfolding cut
+one_way = asks (codes "{ <a:1> <p:alt> ?x . }") (alone (leading (step (predicate (codes "p:alt"))))) substitutes refl refl refl refl refl
+
+any_way : Asks (codes "{ <a:1> !<p:val> ?x . }") anything_but_a_value
+unfolding cut
+any_way = asks (codes "{ <a:1> !<p:val> ?x . }") (alone (leading (step (other (one (codes "p:val")))))) anything_but_a_value refl refl refl refl refl
+
+one_way_valued : Asks (codes "{ <a:1> <p:alt> ?x . OPTIONAL { ?x <p:val> ?v . } }") with_value
+unfolding cut
+one_way_valued = asks (codes "{ <a:1> <p:alt> ?x . OPTIONAL { ?x <p:val> ?v . } }")
+    (question (items (leading (step (predicate (codes "p:alt")))) (items if_valued no_items)))
+    with_value refl refl refl refl refl
+
+two_ways_valued : Asks (codes "{ <a:1> <p:alt>|<p:like> ?x . OPTIONAL { ?x <p:val> ?v . } }") two_ways_with_value
+unfolding cut
+two_ways_valued = asks (codes "{ <a:1> <p:alt>|<p:like> ?x . OPTIONAL { ?x <p:val> ?v . } }")
+    (question (items
+    (leading (path (chain (forward (predicate (codes "p:alt")) once) no_steps) (alternatives (chain (forward (predicate (codes "p:like")) once) no_steps) no_alternatives)))
+    (items if_valued no_items)))
+    two_ways_with_value refl refl refl refl refl
+
+pub texts_ask_for_weights : TextsAskForWeights
+texts_ask_for_weights = (one_way, any_way, one_way_valued, two_ways_valued)
 
 -- ---- the questions about feeders
 

@@ -4,4 +4,5 @@ pub mod Shelf
 pub mod Shown
 pub mod Static
 pub mod Texts
+pub mod Weighed
 pub mod Written

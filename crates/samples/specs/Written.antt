@@ -8,6 +8,7 @@ use Rattle.pages.specs.Pages.{address, web_meaning}
 use Rattle.webs_meant.specs.Finding.{found_of}
 use Rattle.samples.specs.Feeders as feeders
 use Rattle.samples.specs.File as file
+use Rattle.samples.specs.Weighed as weighed
 
 abbrev pub four_pages : List ℕ
 four_pages =
@@ -23,6 +24,12 @@ feeder_pages =
     ++ (codes "@page <c:2>\n<c:2> <p:alt> <c:3> .\n"
     ++ codes "@page <c:3>\n<c:3> <p:fits> <f:1> .\n<c:3> <p:fits> <f:2> .\n"))
 
+-- the first substitute is listed twice
+abbrev pub weighed_pages : List ℕ
+weighed_pages =
+    codes "@page <a:1>\n<a:1> <p:alt> <x:1> .\n<a:1> <p:alt> <x:1> .\n<a:1> <p:alt> <x:2> .\n<a:1> <p:like> <x:2> .\n"
+    ++ codes "@page <x:1>\n<x:1> <p:val> \"10u\" .\n"
+
 -- As a Web the file is these lists: what is worked out over them holds over the file. V is the type of a question's variables.
 pub record Means (V : Type 0) (bytes : List ℕ) (found : Term → List (Triple Term)) : Type 0 where
   -- every term that has no `#` finds its list
@@ -36,3 +43,6 @@ FileIsWritten = Means ℕ four_pages file.found
 
 abbrev pub FeedersAreWritten : Type 0
 FeedersAreWritten = Means Name feeder_pages feeders.found
+
+abbrev pub WeighedIsWritten : Type 0
+WeighedIsWritten = Means ℕ weighed_pages weighed.found

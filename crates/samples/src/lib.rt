@@ -4,7 +4,9 @@
 mod feeders;
 mod plans;
 mod shown;
+mod weighed;
 
 pub use feeders::feeders_show_it;
 pub use plans::plans_are_static;
 pub use shown::pages_show_it;
+pub use weighed::weights_show_it;
