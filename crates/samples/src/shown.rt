@@ -6,7 +6,7 @@ ghost use Rattle.samples.specs.Shelf.{ThreePagesSuffice};
 ghost use Rattle.samples.specs.Written.{FileIsWritten};
 ghost use Rattle.samples.specs.Shown.{PagesThatAreNeeded};
 
-// Eleven questions over a file of four pages.
+// Ten questions over a file of four pages, one of which cannot be walked.
 pub fn pages_show_it()
     ensures texts { TextsAskThem }
     ensures ways { TwoWaysCountTwo }

@@ -1,4 +1,4 @@
--- Terms of any type A that has a test for equal terms and one for IRIs, and lists of them. The session's term numbers are such a type too.
+-- Terms of any type A that has a test for equal terms and one for IRIs, and lists of them. Term numbers are such a type too.
 use Rattle.std.specs.Prelude.{◌≡◌, Bool, true, false, ◌||◌, ◌⊎◌, List, [], ◌∷◌, ◌++◌}
 
 pub record Terms (A : Type 0) : Type 0 where
