@@ -1,295 +1,94 @@
--- Page files read as lists of pages: what a file finds for every term, from what it has on its few pages.
-use Rattle.std.proofs.Common.{◌≡◌, ℕ, ◌+◌, Bool, true, false, cond, ◌&&◌, ◌||◌, leb, ◌⊎◌, List, [], ◌∷◌, length, None, Option, sym, refl, ap, ◌∙◌, subst, ap₂, inl, inr, arith}
+-- A list of pages as a Web: what it finds, and its universe.
+use Rattle.std.proofs.Common.{◌≡◌, Bool, true, false, cond, ◌||◌, List, [], ◌∷◌, sym, refl, ap, ◌∙◌, subst, inl, inr, arith}
 use Rattle.std.proofs.lemmas.Bool.{and_parts, or_left, or_right}
-use Rattle.std.proofs.lemmas.Slice.Eq.{bytes_eq-Decides}
 use Rattle.std.specs.List.{list_all}
-use Rattle.std.specs.Str.{bytes_eq}
-use mathlib.Core.Path.{fun_ext}
-use Rattle.terms.specs.Lawful.{is_iri}
 use Rattle.terms.specs.Terms.{Term}
-use Rattle.terms.specs.declared.kind.Kind.{Kind}
-use Rattle.terms.specs.declared.kind.Kind.TheVariants.{Iri, Literal}
 use Rattle.grammar.specs.Syntax.{Pattern}
-use Rattle.semantics.specs.Graphs.{Graph}
-use Rattle.semantics.specs.Terms.{In, has, Distinct}
-use Rattle.semantics.specs.Webs.{Triple, terms_listed, about, graph_of, Met, Universe, is_iri_kind, by_bytes}
-use Rattle.semantics.proofs.Lists.{clash, by_test}
+use Rattle.semantics.specs.Terms.{In, gather, has, Distinct}
+use Rattle.semantics.specs.Webs.{Triple, terms_in, terms_listed, Met, Universe, is_iri_kind, by_bytes, lawful_iri, Found}
+use Rattle.semantics.proofs.Lists.{clash, by_test, has_in, in_has, in_gather, gather_in}
 use Rattle.semantics.proofs.Bytes.{by_bytes_exact}
-use Rattle.lines.specs.Lines.{lines}
-use Rattle.lines.specs.Readings.{Said, nothing, opens, states, unreadable, says}
-use Rattle.pages.specs.declared.cause.PageCause.{PageCause}
-use Rattle.pages.specs.Pages.{Numbered, numbered, page_after, is_page, lines_on, page_of, address, page_at, web_meaning}
-use Rattle.web.specs.Meaning.{Looked, absent, triples}
-use Rattle.webs_meant.specs.Finding.{as_triples, found_of}
-use Rattle.samples.specs.File as file
-use Rattle.samples.specs.Feeders as feeders
-use Rattle.samples.specs.Weighed as weighed
-use Rattle.samples.specs.Written.{four_pages, feeder_pages, weighed_pages, Means, FileIsWritten, FeedersAreWritten, WeighedIsWritten}
-use Rattle.samples.proofs.Lists.{each_passes}
+use Rattle.samples.proofs.Lists.{each_passes, within, within_has}
 
 -- a page is an IRI with its triples
-abbrev Page : Type 0
+abbrev pub Page : Type 0
 Page = Term × List (Triple Term)
 
-abbrev in_book : List Page → Term → List (Triple Term)
+abbrev pub in_book : List Page → Term → List (Triple Term)
 in_book [] t = []
 in_book (p ∷ ps) t = cond (by_bytes.same t p.0) p.1 (in_book ps t)
 
-abbrev heads : List Page → List Term
+abbrev pub heads : List Page → List Term
 heads [] = []
 heads (p ∷ ps) = p.0 ∷ heads ps
 
-abbrev addresses : List Page → List (List ℕ)
-addresses [] = []
-addresses (p ∷ ps) = p.0.bytes ∷ addresses ps
-
--- ---- lines that open no page of this address
-
-abbrev with_opened : Said → List (List ℕ) → List (List ℕ)
-with_opened nothing bs = bs
-with_opened (opens a) bs = a ∷ bs
-with_opened (states t) bs = bs
-with_opened unreadable bs = bs
-
-abbrev opened : List (List ℕ) → List (List ℕ)
-opened [] = []
-opened (l ∷ ls) = with_opened (says l) (opened ls)
-
-abbrev among : List ℕ → List (List ℕ) → Bool
-among a [] = false
-among a (b ∷ bs) = bytes_eq b a || among a bs
-
-neither : (s t : Bool) → s || t ≡ false → (s ≡ false) × (t ≡ false)
+pub neither : (s t : Bool) → s || t ≡ false → (s ≡ false) × (t ≡ false)
 neither s t e = (grind arith, grind arith)
 
-still_off : (a : List ℕ) (p : Option (List ℕ)) (s : Said) (bs : List (List ℕ)) → is_page a p ≡ false → among a (with_opened s bs) ≡ false
-    → (is_page a (page_after p s) ≡ false) × (among a bs ≡ false)
-still_off a p nothing bs e h = (e, h)
-still_off a p (opens b) bs e h = neither (bytes_eq b a) (among a bs) h
-still_off a p (states t) bs e h = (e, h)
-still_off a p unreadable bs e h = (e, h)
-
-off : (a : List ℕ) (n : ℕ) (p : Option (List ℕ)) (ls : List (List ℕ)) → is_page a p ≡ false → among a (opened ls) ≡ false → lines_on a n p ls ≡ []
-unfolding lines_on
-off a n p [] e h = refl
-off a n p (l ∷ ls) e h =
-    let r = still_off a p (says l) (opened ls) e h in
-    let rest : List Numbered = lines_on a (n + 1) (page_after p (says l)) ls in
-    ap (λ t. cond t (numbered (n + 1) (says l) ∷ rest) rest) r.0 ∙ off a (n + 1) (page_after p (says l)) ls r.0 r.1
-
--- ---- a file and its pages
-
--- each page has its triples
-abbrev Each : List ℕ → List Page → Type 0
-Each bytes [] = Unit {0}
-Each bytes (p ∷ ps) = (as_triples (triples (page_at bytes p.0.bytes)) ≡ p.1) × Each bytes ps
-
--- an IRI that names a page: it has no `#`
-abbrev names_page : Term → Bool
-names_page t = is_iri_kind t.kind && (is_iri t.bytes && bytes_eq (address t.bytes) t.bytes)
-
-record Book (bytes : List ℕ) (pages : List Page) : Type 0 where
-  pub short : leb (length bytes) 65536 ≡ true
-  pub opens : opened (lines bytes) ≡ addresses pages
-  pub each : Each bytes pages
-  pub named : list_all (λ p. names_page p.0) pages ≡ true
-  pub distinct : Distinct by_bytes (heads pages)
-  pub subjects : list_all (λ p. list_all (λ r. has by_bytes r.subject (heads pages)) p.1) pages ≡ true
-
-each_page : (bytes : List ℕ) (pages : List Page) → Each bytes pages → (p : Page) → In p pages → as_triples (triples (page_at bytes p.0.bytes)) ≡ p.1
-each_page bytes [] h p i = elim i [ ]
-each_page bytes (q ∷ ps) h p (inl i) = subst (λ (z : Page). as_triples (triples (page_at bytes z.0.bytes)) ≡ z.1) (sym i) h.0
-each_page bytes (q ∷ ps) h p (inr i) = each_page bytes ps h.1 p i
-
-in_heads : (p : Page) (pages : List Page) → In p pages → has by_bytes p.0 (heads pages) ≡ true
+pub in_heads : (p : Page) (pages : List Page) → In p pages → has by_bytes p.0 (heads pages) ≡ true
 in_heads p [] i = elim i [ ]
 in_heads p (q ∷ ps) (inl i) = or_left (by_bytes.same p.0 q.0) (has by_bytes p.0 (heads ps)) (ap (λ (z : Page). by_bytes.same p.0 z.0) (sym i) ∙ by_bytes_exact.told p.0)
 in_heads p (q ∷ ps) (inr i) = or_right (by_bytes.same p.0 q.0) (has by_bytes p.0 (heads ps)) (in_heads p ps i)
 
-headed : (t : Term) (pages : List Page) → has by_bytes t (heads pages) ≡ true → (p : Page) × In p pages × (t ≡ p.0)
+pub headed : (t : Term) (pages : List Page) → has by_bytes t (heads pages) ≡ true → (p : Page) × In p pages × (t ≡ p.0)
 headed t [] e = clash e refl
 headed t (q ∷ ps) e = by_test (by_bytes.same t q.0)
     (λ s. (q, inl refl, by_bytes_exact.tells t q.0 s))
     (λ s. let r = headed t ps (ap (λ b. b || has by_bytes t (heads ps)) (sym s) ∙ e) in (r.0, inr r.1, r.2))
 
 -- a page is found under its head
-at_head : (pages : List Page) → Distinct by_bytes (heads pages) → (p : Page) → In p pages → in_book pages p.0 ≡ p.1
+pub at_head : (pages : List Page) → Distinct by_bytes (heads pages) → (p : Page) → In p pages → in_book pages p.0 ≡ p.1
 at_head [] d p i = elim i [ ]
 at_head (q ∷ ps) d p (inl i) = subst (λ (z : Page). in_book (q ∷ ps) z.0 ≡ z.1) (sym i) (ap (λ b. cond b q.1 (in_book ps q.0)) (by_bytes_exact.told q.0))
 at_head (q ∷ ps) d p (inr i) = by_test (by_bytes.same p.0 q.0)
     (λ s. clash (ap (λ z. has by_bytes z (heads ps)) (sym (by_bytes_exact.tells p.0 q.0 s)) ∙ in_heads p ps i) d.0)
     (λ s. ap (λ b. cond b q.1 (in_book ps p.0)) s ∙ at_head ps d.1 p i)
 
-no_head : (t : Term) (pages : List Page) → has by_bytes t (heads pages) ≡ false → in_book pages t ≡ []
+pub no_head : (t : Term) (pages : List Page) → has by_bytes t (heads pages) ≡ false → in_book pages t ≡ []
 no_head t [] e = refl
 no_head t (q ∷ ps) e = let r = neither (by_bytes.same t q.0) (has by_bytes t (heads ps)) e in ap (λ b. cond b q.1 (in_book ps t)) r.0 ∙ no_head t ps r.1
 
--- an address is that of a page, or of none
-addressed : (a : List ℕ) (pages : List Page) → ((p : Page) × In p pages × (a ≡ p.0.bytes)) ⊎ (among a (addresses pages) ≡ false)
-addressed a [] = inr refl
-addressed a (q ∷ ps) = by_test (bytes_eq q.0.bytes a)
-    (λ s. inl (q, inl refl, sym ((bytes_eq-Decides q.0.bytes a).0 s)))
-    (λ s. elim (addressed a ps) [ inl h ↦ inl (h.0, inr h.1, h.2) | inr h ↦ inr (ap (λ b. b || among a (addresses ps)) s ∙ h) ])
+-- ---- a Web and its universe
 
--- no triple of a list has this subject
-about_none : (t : Term) (hs : List Term) (l : List (Triple Term)) → list_all (λ r. has by_bytes r.subject hs) l ≡ true → has by_bytes t hs ≡ false → about by_bytes t l ≡ []
-about_none t hs [] h e = refl
-about_none t hs (r ∷ l) h e =
-    let c = and_parts (has by_bytes r.subject hs) (list_all (λ s. has by_bytes s.subject hs) l) h in
-    by_test (by_bytes.same r.subject t)
-    (λ s. clash (ap (λ z. has by_bytes z hs) (sym (by_bytes_exact.tells r.subject t s)) ∙ c.0) e)
-    (λ s. ap (λ b. cond b ((r.predicate, r.object) ∷ about by_bytes t l) (about by_bytes t l)) s ∙ about_none t hs l c.1 e)
+abbrev terms_on : List Page → List Term
+terms_on pages = gather (λ p. terms_listed p.1) pages
 
-module _ (bytes : List ℕ) (pages : List Page) (b : Book bytes pages) where
-  abbrev found : Term → List (Triple Term)
-  found = found_of (web_meaning bytes)
+-- the pages stand under distinct IRIs, and the list has their terms, each once
+pub record Whole (pages : List Page) (U : List Term) : Type 0 where
+  pub lawful : list_all lawful_iri (heads pages) ≡ true
+  pub apart : Distinct by_bytes (heads pages)
+  pub distinct : Distinct by_bytes U
+  pub all : within (terms_on pages) U ≡ true
+  pub none_else : within U (terms_on pages) ≡ true
 
-  abbrev listed : Looked PageCause → List (Triple Term)
-  listed l = as_triples (triples l)
+module _ (pages : List Page) (U : List Term) (w : Whole pages U) where
+  pub book_found : Found (in_book pages)
+  book_found t e = by_test (has by_bytes t (heads pages))
+      (λ s. clash (each_passes lawful_iri (heads pages) w.lawful t (has_in by_bytes_exact t (heads pages) s)) e)
+      (no_head t pages)
 
-  iri_found : (x : List ℕ) → found (record { kind = Iri; bytes = x }) ≡ listed (cond (is_iri x) (page_at bytes (address x)) absent)
-  iri_found x = ap (λ t. listed (cond t (cond (is_iri x) (page_at bytes (address x)) absent) absent)) b.short
-
-  -- a term finds nothing, or it is an IRI that leads to a page
-  abbrev Look : Term → Type 0
-  Look t = (found t ≡ []) ⊎ ((p : Page) × In p pages × (t.kind ≡ Iri) × (address t.bytes ≡ p.0.bytes) × (found t ≡ p.1))
-
-  look : (t : Term) → Look t
-  look t = go t.kind
+  pub book_universe : {V : Type 0} (q : Pattern Term V) → within (terms_in q) U ≡ true → Universe by_bytes (in_book pages) q U
+  book_universe {V} q h = record { distinct = w.distinct; all = all; none_else = none_else }
     where
-      x : List ℕ
-      x = t.bytes
+      on_page : (i a : Term) → has by_bytes a (terms_listed (in_book pages i)) ≡ true → has by_bytes a U ≡ true
+      on_page i a e = by_test (has by_bytes i (heads pages))
+          (λ s. let r = headed i pages s in
+          within_has (terms_on pages) U w.all a
+          (in_has by_bytes_exact a (terms_on pages)
+          (gather_in (λ (p : Page). terms_listed p.1) pages r.0 a r.1
+          (has_in by_bytes_exact a (terms_listed r.0.1)
+          (ap (λ l. has by_bytes a (terms_listed l)) (sym (ap (in_book pages) r.2 ∙ at_head pages w.apart r.0 r.1)) ∙ e)))))
+          (λ s. clash e (ap (λ l. has by_bytes a (terms_listed l)) (no_head i pages s)))
 
-      led : (k : Bool) → is_iri x ≡ k → Look (record { kind = Iri; bytes = x })
-      led false e = inl (iri_found x ∙ ap (λ s. listed (cond s (page_at bytes (address x)) absent)) e)
-      led true e =
-          let here : found (record { kind = Iri; bytes = x }) ≡ listed (page_at bytes (address x)) = iri_found x ∙ ap (λ s. listed (cond s (page_at bytes (address x)) absent)) e in
-          elim (addressed (address x) pages) [
-            | inl h ↦ inr (h.0, h.1, refl, h.2, here ∙ ap (λ a. listed (page_at bytes a)) h.2 ∙ each_page bytes pages b.each h.0 h.1)
-            | inr h ↦ inl (here ∙ ap (λ ls. listed (page_of ls)) (off (address x) 0 None (lines bytes) refl (ap (among (address x)) b.opens ∙ h)))
-          ]
+      all : (a : Term) → Met by_bytes (in_book pages) q a → has by_bytes a U ≡ true
+      all a (inl e) = within_has (terms_in q) U h a e
+      all a (inr e) = on_page e.0 a e.2
 
-      go : (k : Kind) → Look (record { kind = k; bytes = x })
-      go Iri = led (is_iri x) refl
-      go Literal = inl refl
-
-  -- the head of a page finds it
-  head_page : (p : Page) → In p pages → found p.0 ≡ p.1
-  head_page p i =
-      let h = each_passes (λ (q : Page). names_page q.0) pages b.named p i in
-      let c = and_parts (is_iri_kind p.0.kind) (is_iri p.0.bytes && bytes_eq (address p.0.bytes) p.0.bytes) h in
-      let d = and_parts (is_iri p.0.bytes) (bytes_eq (address p.0.bytes) p.0.bytes) c.1 in
-      go p.0.kind c.0
-      (iri_found p.0.bytes ∙ ap (λ s. listed (cond s (page_at bytes (address p.0.bytes)) absent)) d.0
-      ∙ ap (λ a. listed (page_at bytes a)) ((bytes_eq-Decides (address p.0.bytes) p.0.bytes).0 d.1) ∙ each_page bytes pages b.each p i)
-    where
-      go : (k : Kind) → is_iri_kind k ≡ true → found (record { kind = Iri; bytes = p.0.bytes }) ≡ p.1 → found (record { kind = k; bytes = p.0.bytes }) ≡ p.1
-      go Iri e h = h
-      go Literal e h = clash e refl
-
-  head_same : (t : Term) → has by_bytes t (heads pages) ≡ true → found t ≡ in_book pages t
-  head_same t e =
-      let r = headed t pages e in
-      ap found r.2 ∙ head_page r.0 r.1 ∙ sym (at_head pages b.distinct r.0 r.1) ∙ sym (ap (in_book pages) r.2)
-
-  -- an IRI that leads to a page, and has no `#`, is the page's head
-  is_head : (t : Term) (p : Page) → In p pages → t.kind ≡ Iri → t.bytes ≡ p.0.bytes → t ≡ p.0
-  is_head t p i k e = go p.0.kind (and_parts (is_iri_kind p.0.kind) _ (each_passes (λ (q : Page). names_page q.0) pages b.named p i)).0
-    where
-      go : (j : Kind) → is_iri_kind j ≡ true → t ≡ record { kind = j; bytes = p.0.bytes }
-      go Iri h = ap₂ {C = Term} (λ j x. record { kind = j; bytes = x }) k e
-      go Literal h = clash h refl
-
-  lists : (t : Term) → address t.bytes ≡ t.bytes → found t ≡ in_book pages t
-  lists t a = by_test (has by_bytes t (heads pages)) (head_same t) (λ e.
-      elim (look t) [
-        | inl h ↦ h ∙ sym (no_head t pages e)
-        | inr h ↦ clash (ap (λ z. has by_bytes z (heads pages)) (is_head t h.0 h.1 h.2 (sym a ∙ h.3)) ∙ in_heads h.0 pages h.1) e
-      ])
-
-  contexts : (t : Term) → about by_bytes t (found t) ≡ about by_bytes t (in_book pages t)
-  contexts t = by_test (has by_bytes t (heads pages)) (λ e. ap (about by_bytes t) (head_same t e)) (λ e.
-      nothing_of t e ∙ sym (ap (about by_bytes t) (no_head t pages e)))
-    where
-      nothing_of : (t : Term) → has by_bytes t (heads pages) ≡ false → about by_bytes t (found t) ≡ []
-      nothing_of t e =
-          elim (look t) [
-            | inl h ↦ ap (about by_bytes t) h
-            | inr h ↦ ap (about by_bytes t) h.4
-                ∙ about_none t (heads pages) h.0.1 (each_passes (λ (q : Page). list_all (λ r. has by_bytes r.subject (heads pages)) q.1) pages b.subjects h.0 h.1) e
-          ]
-
-  same_graph : (U : List Term) → graph_of by_bytes found U ≡ graph_of by_bytes (in_book pages) U
-  same_graph U = ap {B = Graph Term} (λ f. record { context = f; universe = U }) (fun_ext (λ t. ap (λ c. cond (by_bytes.is_iri t) c []) (contexts t)))
-
-  module _ {V : Type 0} (p : Pattern Term V) where
-    met_there : (x : Term) → Met by_bytes found p x → Met by_bytes (in_book pages) p x
-    met_there x (inl e) = inl e
-    met_there x (inr m) =
-        elim (look m.0) [
-          | inl h ↦ clash m.2 (ap (λ l. has by_bytes x (terms_listed l)) h)
-          | inr h ↦ inr (
-            h.0.0,
-            (and_parts (is_iri_kind h.0.0.kind) _ (each_passes (λ (q : Page). names_page q.0) pages b.named h.0 h.1)).0,
-            ap (λ l. has by_bytes x (terms_listed l)) (at_head pages b.distinct h.0 h.1 ∙ sym h.4) ∙ m.2,
+      none_else : (a : Term) → has by_bytes a U ≡ true → Met by_bytes (in_book pages) q a
+      none_else a e =
+          let r = in_gather (λ (p : Page). terms_listed p.1) pages a (has_in by_bytes_exact a (terms_on pages) (within_has U (terms_on pages) w.none_else a e)) in
+          inr (
+            r.0.0,
+            (and_parts (is_iri_kind r.0.0.kind) _ (each_passes lawful_iri (heads pages) w.lawful r.0.0 (has_in by_bytes_exact r.0.0 (heads pages) (in_heads r.0 pages r.1)))).0,
+            ap (λ l. has by_bytes a (terms_listed l)) (at_head pages w.apart r.0 r.1) ∙ in_has by_bytes_exact a (terms_listed r.0.1) r.2,
           )
-        ]
-
-    met_back : (x : Term) → Met by_bytes (in_book pages) p x → Met by_bytes found p x
-    met_back x (inl e) = inl e
-    met_back x (inr m) = by_test (has by_bytes m.0 (heads pages))
-        (λ e. inr (m.0, m.1, ap (λ l. has by_bytes x (terms_listed l)) (head_same m.0 e) ∙ m.2))
-        (λ e. clash m.2 (ap (λ l. has by_bytes x (terms_listed l)) (no_head m.0 pages e)))
-
-    same_universe : (U : List Term) → Universe by_bytes (in_book pages) p U → Universe by_bytes found p U
-    same_universe U u = record { distinct = u.distinct; all = λ x m. u.all x (met_there x m); none_else = λ x h. met_back x (u.none_else x h) }
-
-  means : {V : Type 0} → Means V bytes (in_book pages)
-  means = record { lists = lists; graph = same_graph; universe = same_universe }
-
--- ---- the files
-
-abbrev file_book : List Page
-file_book =
-    (file.m1, file.triple file.m1 file.alt file.m2 ∷ file.triple file.m1 file.alt file.m3 ∷ [])
-    ∷ (file.m2, file.triple file.m2 file.val file.ten ∷ [])
-    ∷ (file.m3, file.triple file.m3 file.val file.ten ∷ file.triple file.m2 file.val file.twenty_two ∷ [])
-    ∷ (file.m4, file.triple file.m4 file.val file.forty_seven ∷ [])
-    ∷ []
-
-file_reads : Book four_pages file_book
-unfolding lines says lines_on
-file_reads = record { short = refl; opens = refl; each = (refl, (refl, (refl, (refl, tt)))); named = refl; distinct = (refl, (refl, (refl, (refl, tt)))); subjects = refl }
-
-pub file_is_written : FileIsWritten
-file_is_written = means four_pages file_book file_reads
-
-abbrev feeder_book : List Page
-feeder_book =
-    (feeders.b7, file.triple feeders.b7 feeders.place feeders.c1 ∷ file.triple feeders.b7 feeders.place feeders.c2 ∷ [])
-    ∷ (feeders.c1, file.triple feeders.c1 feeders.alt feeders.c3 ∷ [])
-    ∷ (feeders.c2, file.triple feeders.c2 feeders.alt feeders.c3 ∷ [])
-    ∷ (feeders.c3, file.triple feeders.c3 feeders.fits feeders.f1 ∷ file.triple feeders.c3 feeders.fits feeders.f2 ∷ [])
-    ∷ []
-
-feeders_read : Book feeder_pages feeder_book
-unfolding lines says lines_on
-feeders_read = record { short = refl; opens = refl; each = (refl, (refl, (refl, (refl, tt)))); named = refl; distinct = (refl, (refl, (refl, (refl, tt)))); subjects = refl }
-
-pub feeders_are_written : FeedersAreWritten
-feeders_are_written = means feeder_pages feeder_book feeders_read
-
-abbrev weighed_book : List Page
-weighed_book = (
-  weighed.a1,
-  file.triple weighed.a1 weighed.alt weighed.x1 ∷ file.triple weighed.a1 weighed.alt weighed.x1 ∷ file.triple weighed.a1 weighed.alt weighed.x2 ∷ file.triple weighed.a1 weighed.like weighed.x2 ∷ [],
-)
-    ∷ (weighed.x1, file.triple weighed.x1 weighed.val weighed.ten ∷ [])
-    ∷ []
-
-weighed_reads : Book weighed_pages weighed_book
-unfolding lines says lines_on
-weighed_reads = record { short = refl; opens = refl; each = (refl, (refl, tt)); named = refl; distinct = (refl, (refl, tt)); subjects = refl }
-
-pub weighed_is_written : WeighedIsWritten
-weighed_is_written = means weighed_pages weighed_book weighed_reads

@@ -1,6 +1,6 @@
 pub mod Books
+pub mod Files
 pub mod Lists
 pub mod Orders
 pub mod Pages
 pub mod Reading
-pub mod Weighing

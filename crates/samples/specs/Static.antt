@@ -1,16 +1,17 @@
 -- The plan goes by what judging has fixed, not by the terms that happen to be there.
 -- Part a:1 has the substitute x:1, which has a value y:1; another list, b:1, names the value y:2. The question asks for a substitute, its value if it has
 -- one, and what the value that b:1 names leads to.
-use Rattle.std.specs.Prelude.{◌≡◌, ℕ, true, cond, List, [], ◌∷◌, codes}
+use Rattle.std.specs.Prelude.{◌≡◌, true, cond, List, [], ◌∷◌, codes}
 use Rattle.terms.specs.Terms.{Term}
-use Rattle.grammar.specs.Syntax.{link, inverse, sequence, constant, variable, Pattern, line, and, opt}
+use Rattle.grammar.specs.Syntax.{link, inverse, sequence, constant, variable, line, and, opt}
 use Rattle.grammar.specs.Grammar.{iri_term}
 use Rattle.grammar.specs.Judged.{judged}
 use Rattle.semantics.specs.Graphs.{Graph}
-use Rattle.semantics.specs.Webs.{Triple, graph_of, by_bytes}
+use Rattle.semantics.specs.Terms.{In}
+use Rattle.semantics.specs.Webs.{Triple, graph_of, Universe, by_bytes, Found}
 use Rattle.walks.specs.Needs.{needs}
 use Rattle.walks.specs.Promises.{whole}
-use Rattle.samples.specs.File.{triple}
+use Rattle.samples.specs.File.{triple, Asked}
 
 abbrev pub a1 : Term
 a1 = iri_term (codes "a:1")
@@ -49,11 +50,14 @@ found t =
     (cond (by_bytes.same t b1) (triple b1 names y2 ∷ [])
     (cond (by_bytes.same t y1) (triple y1 leads_to z1 ∷ []) [])))
 
+abbrev pub universe : List Term
+universe = a1 ∷ x1 ∷ b1 ∷ y1 ∷ y2 ∷ z1 ∷ alt ∷ val ∷ names ∷ leads_to ∷ []
+
 abbrev pub graph : Graph Term
-graph = graph_of by_bytes found (a1 ∷ x1 ∷ b1 ∷ y1 ∷ y2 ∷ z1 ∷ alt ∷ val ∷ names ∷ leads_to ∷ [])
+graph = graph_of by_bytes found universe
 
 -- { { <a:1> <p:alt> ?x . OPTIONAL { ?x <p:val> ?y . } } { ?y <p:leads> ?z . <b:1> <p:names> ?y . } }
-abbrev pub question : Pattern Term ℕ
+abbrev pub question : Asked
 question =
     and (opt (line (constant a1) (link alt) (variable 0)) (line (variable 0) (link val) (variable 1)))
     (and (line (variable 1) (link leads_to) (variable 2)) (line (constant b1) (link names) (variable 1)))
@@ -69,7 +73,7 @@ JudgingOrdersThePlan = needs by_bytes graph (whole question) ≡ a1 ∷ x1 ∷ b
 -- ---- left side first
 
 -- { <y:1> <p:alt> ?x . <a:1> <p:alt> ?y . }: either side could go first
-abbrev pub two_parts : Pattern Term ℕ
+abbrev pub two_parts : Asked
 two_parts = and (line (constant y1) (link alt) (variable 0)) (line (constant a1) (link alt) (variable 1))
 
 -- The left side has no solution, so the right side is never reached.
@@ -78,15 +82,24 @@ LeftSideGoesFirst = needs by_bytes graph (whole two_parts) ≡ y1 ∷ []
 
 -- <a:1> <p:alt>/^<p:alt> <b:1>: both ends are known, and the walk begins on the left. It hands the middle term x:1 on, and reads b:1 to see whether it
 -- leads there.
-abbrev pub from_both_ends : Pattern Term ℕ
+abbrev pub from_both_ends : Asked
 from_both_ends = line (constant a1) (sequence (link alt) (inverse (link alt))) (constant b1)
 
 abbrev pub SequenceBeginsOnTheLeft : Type 0
 SequenceBeginsOnTheLeft = needs by_bytes graph (whole from_both_ends) ≡ a1 ∷ b1 ∷ []
 
 -- <y:1> <p:alt>/^<p:alt> <b:1>: there is no middle term, so b:1 is not read
-abbrev pub from_nowhere : Pattern Term ℕ
+abbrev pub from_nowhere : Asked
 from_nowhere = line (constant y1) (sequence (link alt) (inverse (link alt))) (constant b1)
 
 abbrev pub NoMiddleNoSecondStep : Type 0
 NoMiddleNoSecondStep = needs by_bytes graph (whole from_nowhere) ≡ y1 ∷ []
+
+-- ---- the documents
+
+-- they are a Web, and the terms listed are its universe for each of these questions
+abbrev pub asked : List Asked
+asked = question ∷ two_parts ∷ from_both_ends ∷ from_nowhere ∷ []
+
+abbrev pub PlansAreAWeb : Type 0
+PlansAreAWeb = Found found × ((q : Asked) → In q asked → Universe by_bytes found q universe)

@@ -8,6 +8,7 @@ use Rattle.pages.specs.Pages.{address, web_meaning}
 use Rattle.webs_meant.specs.Finding.{found_of}
 use Rattle.samples.specs.Feeders as feeders
 use Rattle.samples.specs.File as file
+use Rattle.samples.specs.Static as static
 use Rattle.samples.specs.Weighed as weighed
 
 abbrev pub four_pages : List ℕ
@@ -30,6 +31,11 @@ weighed_pages =
     codes "@page <a:1>\n<a:1> <p:alt> <x:1> .\n<a:1> <p:alt> <x:1> .\n<a:1> <p:alt> <x:2> .\n<a:1> <p:like> <x:2> .\n"
     ++ codes "@page <x:1>\n<x:1> <p:val> \"10u\" .\n"
 
+abbrev pub plan_pages : List ℕ
+plan_pages =
+    codes "@page <a:1>\n<a:1> <p:alt> <x:1> .\n@page <x:1>\n<x:1> <p:val> <y:1> .\n"
+    ++ codes "@page <b:1>\n<b:1> <p:names> <y:2> .\n@page <y:1>\n<y:1> <p:leads> <z:1> .\n"
+
 -- As a Web the file is these lists: what is worked out over them holds over the file. V is the type of a question's variables.
 pub record Means (V : Type 0) (bytes : List ℕ) (found : Term → List (Triple Term)) : Type 0 where
   -- every term that has no `#` finds its list
@@ -46,3 +52,6 @@ FeedersAreWritten = Means Name feeder_pages feeders.found
 
 abbrev pub WeighedIsWritten : Type 0
 WeighedIsWritten = Means ℕ weighed_pages weighed.found
+
+abbrev pub PlansAreWritten : Type 0
+PlansAreWritten = Means ℕ plan_pages static.found

@@ -1,6 +1,6 @@
-use Rattle.samples.proofs.Books.{feeders_are_written}
+use Rattle.samples.proofs.Pages.{feeders_are_a_web, feeders_are_written}
 use Rattle.samples.proofs.Reading.{planners_ask_them}
-use Rattle.samples.proofs.Orders.{two_orders_of_one_question, one_list_by_name, feeders_are_a_web}
+use Rattle.samples.proofs.Orders.{two_orders_of_one_question, one_list_by_name}
 use Rattle.samples.proofs.feeders.feeders_show_it.Goals as goal
 
 pub returns-clause-texts : goal.returns-clause-texts

@@ -1,6 +1,5 @@
-use Rattle.samples.proofs.Books.{file_is_written}
+use Rattle.samples.proofs.Pages.{file_is_a_web, file_is_written}
 use Rattle.samples.proofs.Reading.{texts_ask_them}
-use Rattle.samples.proofs.Pages.{file_is_a_web}
 use Rattle.samples.proofs.shown.pages_show_it.Goals as goal
 
 pub returns-clause-texts : goal.returns-clause-texts

@@ -1,6 +1,5 @@
-use Rattle.samples.proofs.Books.{weighed_is_written}
+use Rattle.samples.proofs.Pages.{weighed_is_a_web, weighed_is_written}
 use Rattle.samples.proofs.Reading.{texts_ask_for_weights}
-use Rattle.samples.proofs.Weighing.{weighed_is_a_web}
 use Rattle.samples.proofs.weighed.weights_show_it.Goals as goal
 
 pub returns-clause-texts : goal.returns-clause-texts
