@@ -8,9 +8,8 @@ use Rattle.terms.specs.declared.kind.Kind.{Kind}
 use Rattle.terms.specs.declared.kind.Kind.TheVariants.{Iri, Literal}
 use Rattle.semantics.specs.Webs.{all_bytes, lawful_iri}
 use Rattle.web.specs.Agreement.{Alike}
-use Rattle.web.specs.Laws.{Lawful}
 use Rattle.web.specs.Meaning.{Looked, found, absent, broken, Mark, triples, told}
-use Rattle.webs_meant.specs.Finding.{as_triples, found_of}
+use Rattle.webs_meant.specs.Finding.{as_triples, found_of, LawfulMeaningsAreWebs}
 
 all_iri_bytes : (x : List ℕ) → list_all iri_byte x ≡ all_bytes iri_byte x
 all_iri_bytes [] = refl
@@ -23,7 +22,7 @@ iri_test x = go (length x) (list_all iri_byte x) (all_bytes iri_byte x) (all_iri
     go : (n : ℕ) (s t : _) → s ≡ t → (leb 1 n && leb n 128) && s ≡ ltb 0 n && (leb n 128 && t)
     go n s t e = grind arith
 
-pub lawful_found : {C : Type 0} (meaning : List ℕ → Looked C) → ((iri : List ℕ) → Lawful iri (meaning iri)) → (t : Term) → lawful_iri t ≡ false → found_of meaning t ≡ []
+pub lawful_found : {C : Type 0} → LawfulMeaningsAreWebs C
 lawful_found {C} meaning lawful t e = go t.kind e
   where
     go : (k : Kind) → lawful_iri (record { kind = k; bytes = t.bytes }) ≡ false → found_of meaning (record { kind = k; bytes = t.bytes }) ≡ []

@@ -3,11 +3,16 @@ ghost use Rattle.std.specs.Prelude.{◌≡◌};
 ghost use Rattle.terms.specs.Terms.{Term};
 ghost use Rattle.semantics.specs.Webs.{Found};
 ghost use Rattle.web.specs.Agreement.{Agree, tells_of};
-ghost use Rattle.webs_meant.specs.Finding.{found_of};
+ghost use Rattle.webs_meant.specs.Finding.{found_of, LawfulMeaningsAreWebs};
 
 use web::Web;
 
-// Whatever the make, what a Web finds is what the laws of questions ask of a Web: nothing for what is no IRI.
+// A meaning that keeps the laws of Webs, with causes of a type C, is a Web that the laws of questions are about.
+pub fn lawful_meanings_are_webs<C>()
+    ensures { LawfulMeaningsAreWebs C }
+{}
+
+// So every make's is.
 pub fn every_web_is_meant<W: Web>()
     ensures { (w : W) → Found (found_of (W.Web.meaning w)) }
 {}

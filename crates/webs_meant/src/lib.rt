@@ -3,4 +3,4 @@
 
 mod laws;
 
-pub use laws::{agreeing_webs_mean_the_same, every_web_is_meant};
+pub use laws::{agreeing_webs_mean_the_same, every_web_is_meant, lawful_meanings_are_webs};
