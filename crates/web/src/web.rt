@@ -1,4 +1,4 @@
-// The interface that every make of Web keeps. Its ghost members are the Web's meaning and the laws of it.
+// The interface that every make of Web keeps, with the Web's meaning and the laws of it.
 ghost use Rattle.std.specs.Prelude.{◌≡◌, ℕ, List};
 ghost use Rattle.web.specs.Answers.{answer, tells, leaves};
 ghost use Rattle.web.specs.Laws.{Lawful};
@@ -24,9 +24,6 @@ pub trait Web {
     // What each IRI is: found with a list of triples, absent, or broken with a cause.
     ghost meaning: { Self → List ℕ → Looked Self.Cause };
 
-    // Lists are within the limit and their terms lawful, and bytes that are no IRI are absent.
-    ghost lawful: { (w : Self) (iri : List ℕ) → Lawful iri (meaning w iri) };
-
     // The length of the list that is found, `None` for absent, or the cause.
     fn lookup(&self, iri: &[u8]) -> Result<Option<usize>, Self::Cause>
         ensures { result ≡ answer (meaning self.now iri.now) };
@@ -36,4 +33,7 @@ pub trait Web {
     fn read(&self, iri: &[u8], place: usize, part: u8, out: &mut [u8]) -> Result<Written, Unwritten>
         ensures answer { result ≡ tells (cell (meaning self.now iri.now) place part) out.old }
         ensures buffer { out.new ≡ leaves (cell (meaning self.now iri.now) place part) out.old };
+
+    // A law: lists are within the limit and their terms lawful, and bytes that are no IRI are absent.
+    ghost lawful: { (w : Self) (iri : List ℕ) → Lawful iri (meaning w iri) };
 }

@@ -12,7 +12,7 @@ returns-in_err-subject g c =
     let ls = items c.args.self.now.triples in
     let i = c.loop-place.invariant in
     let k = c.loop-place.place in
-    let lawful = (g.W.Web.lawful c.args.document.now.web.now c.args.document.now.iri.now).terms in
+    let lawful = (g.met.W.Web.lawful c.args.document.now.web.now c.args.document.now.iri.now).terms in
     λ xs e n.
     let lt : k < length xs = omega (arith, n, c.loop-place-test.true) in
     let x = get_or xs k no_triple in
@@ -25,7 +25,7 @@ returns-in_err-predicate g c =
     let ls = items c.args.self.now.triples in
     let i = c.loop-place.invariant in
     let k = c.loop-place.place in
-    let lawful = (g.W.Web.lawful c.args.document.now.web.now c.args.document.now.iri.now).terms in
+    let lawful = (g.met.W.Web.lawful c.args.document.now.web.now c.args.document.now.iri.now).terms in
     λ xs e n.
     let lt : k < length xs = omega (arith, n, c.loop-place-test.true) in
     let x = get_or xs k no_triple in
@@ -38,7 +38,7 @@ returns-in_err-object g c =
     let ls = items c.args.self.now.triples in
     let i = c.loop-place.invariant in
     let k = c.loop-place.place in
-    let lawful = (g.W.Web.lawful c.args.document.now.web.now c.args.document.now.iri.now).terms in
+    let lawful = (g.met.W.Web.lawful c.args.document.now.web.now c.args.document.now.iri.now).terms in
     λ xs e n.
     let lt : k < length xs = omega (arith, n, c.loop-place-test.true) in
     let x = get_or xs k no_triple in
@@ -51,7 +51,7 @@ loop-place-preserved g c =
     let ls = items c.args.self.now.triples in
     let i = c.loop-place.invariant in
     let k = c.loop-place.place in
-    let lawful = (g.W.Web.lawful c.args.document.now.web.now c.args.document.now.iri.now).terms in
+    let lawful = (g.met.W.Web.lawful c.args.document.now.web.now c.args.document.now.iri.now).terms in
     let t : Listed = record { subject = c.in_ok-subject.subject; predicate = c.in_ok-predicate.predicate; object = c.in_ok-object.object } in
     let taken = c.push.ensures.taken (omega (arith, i.1, c.requires, c.loop-place-test.true)) in (
       (λ xs e n.

@@ -46,6 +46,6 @@ returns g c =
     let there = ap (tell (λ a. a.items)) (sym c.in_ok-address.ensures.ok_part) ∙ c.address.ensures in
     let x = copied_some (address_of (term_at (view s).terms c.args.iri)) _ there in
     let at = ap (λ (l : List ℕ). told g.W.Cause.Cause.mark (g.W.Web.meaning w l)) (c.as_slice.ensures.value ∙ x.2)
-    ∙ ap (told g.W.Cause.Cause.mark) (address_means (g.W.Web.meaning w) (g.W.Web.lawful w) x.0) in
+    ∙ ap (told g.W.Cause.Cause.mark) (address_means (g.W.Web.meaning w) (g.met.W.Web.lawful w) x.0) in
     let r = looked_there (tells_of g.W.Cause.Cause.mark g.W.Web.meaning w) c.args.iri (view s) x.0 _ (items s.noted) c.fetch-mark.result _ _ _ _ (full_not (view s) (omega (arith, c.if-is_full.ensures, view_count s))) x.1 at refl c.fetch-mark.ensures (c.push.ensures.taken c.if-is_full.ensures) in
     record { answer = r.0; after = r.1; numbers = refl }
