@@ -1,1 +1,2 @@
 pub mod Fitting
+mod Agreeing

@@ -1,6 +1,7 @@
 -- When two Webs agree on an IRI. Webs of different makes are compared by what they tell, so a cause counts by its code and its place.
-use Rattle.std.specs.Prelude.{◌≡◌, ℕ, List}
-use Rattle.web.specs.Meaning.{Looked, found, absent, broken, Mark, Told, told}
+use Rattle.std.specs.Prelude.{◌≡◌, ℕ, List, Ok, Err, Option, Result}
+use Rattle.web.specs.Answers.{answer, tells, leaves}
+use Rattle.web.specs.Meaning.{Looked, found, absent, broken, cell, Mark, Told, told}
 use Rattle.web.specs.Pairs.{or_told}
 
 abbrev pub Alike : Told → Told → Type 0
@@ -43,3 +44,16 @@ AgreesByTelling = (v w : Tells) (iri : List ℕ) → Agree v w iri → v iri ≡
 -- pairs of Webs that agree, agree
 abbrev pub PairsAgree : Type 0
 PairsAgree = (u v w x : Tells) (iri : List ℕ) → Agree u v iri → Agree w x iri → Agree (λ i. or_told (u i) (w i)) (λ i. or_told (v i) (x i)) iri
+
+-- ---- what agreement comes to for whoever asks
+
+-- what a lookup answers, a cause by its code and its place
+abbrev pub answer_told : {C : Type 0} → (C → Mark) → Result (Option ℕ) C → Result (Option ℕ) Mark
+answer_told mark (Ok length) = Ok length
+answer_told mark (Err c) = Err (mark c)
+
+-- where two makes hold these, their lookups answer alike, and so does every read, which also leaves its buffer alike
+pub record AnswerAlike {C D : Type 0} (f : C → Mark) (g : D → Mark) (k : Looked C) (l : Looked D) : Type 0 where
+  pub lookups : answer_told f (answer k) ≡ answer_told g (answer l)
+  pub reads : (place part : ℕ) (buffer : List ℕ) → tells (cell k place part) buffer ≡ tells (cell l place part) buffer
+  pub buffers : (place part : ℕ) (buffer : List ℕ) → leaves (cell k place part) buffer ≡ leaves (cell l place part) buffer

@@ -2,19 +2,27 @@
 ghost use Rattle.std.specs.Prelude.{◌≡◌, ℕ, ◌≤◌, List, length, Some};
 ghost use Rattle.terms.specs.Terms.{Term};
 ghost use Rattle.web.specs.Meaning.{cell};
-ghost use Rattle.web.specs.Agreement.{AgreesWithItself, AgreesBothWays, AgreesThrough, AgreesByTelling, PairsAgree, tells_of};
+ghost use Rattle.web.specs.Agreement.{Agree, AgreesWithItself, AgreesBothWays, AgreesThrough, AgreesByTelling, AnswerAlike, PairsAgree, tells_of};
 ghost use Rattle.web.specs.Pairs.{both, either_mark, or_told};
 
 use crate::pair::Pair;
 use crate::web::Web;
 
-// Agreement on an IRI is an equivalence, over Webs of any makes, and pairs keep it.
+// Agreement on an IRI is an equivalence of what Webs tell, and pairs keep it.
 pub fn agreement_is_lawful()
     ensures itself { AgreesWithItself }
     ensures ways { AgreesBothWays }
     ensures through { AgreesThrough }
     ensures telling { AgreesByTelling }
     ensures pairs { PairsAgree }
+{}
+
+// Agreement of Webs of any makes, each by its meaning and its marks, is an equivalence too. Webs that agree on an IRI answer every call on it alike.
+pub fn webs_agree<U: Web, V: Web, W: Web>()
+    ensures itself { (w : W) (iri : List ℕ) → Agree (tells_of W.Cause.mark W.Web.meaning w) (tells_of W.Cause.mark W.Web.meaning w) iri }
+    ensures ways { (v : V) (w : W) (iri : List ℕ) → Agree (tells_of V.Cause.mark V.Web.meaning v) (tells_of W.Cause.mark W.Web.meaning w) iri → Agree (tells_of W.Cause.mark W.Web.meaning w) (tells_of V.Cause.mark V.Web.meaning v) iri }
+    ensures through { (u : U) (v : V) (w : W) (iri : List ℕ) → Agree (tells_of U.Cause.mark U.Web.meaning u) (tells_of V.Cause.mark V.Web.meaning v) iri → Agree (tells_of V.Cause.mark V.Web.meaning v) (tells_of W.Cause.mark W.Web.meaning w) iri → Agree (tells_of U.Cause.mark U.Web.meaning u) (tells_of W.Cause.mark W.Web.meaning w) iri }
+    ensures answers { (v : V) (w : W) (iri : List ℕ) → Agree (tells_of V.Cause.mark V.Web.meaning v) (tells_of W.Cause.mark W.Web.meaning w) iri → AnswerAlike V.Cause.mark W.Cause.mark (V.Web.meaning v iri) (W.Web.meaning w iri) }
 {}
 
 // A pair tells by what its two Webs tell.

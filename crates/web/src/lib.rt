@@ -9,7 +9,7 @@ mod web;
 mod writes;
 
 pub use answers::Written;
-pub use laws::{agreement_is_lawful, pairs_tell, terms_fit};
+pub use laws::{agreement_is_lawful, pairs_tell, terms_fit, webs_agree};
 pub use pair::{Pair, PairCause};
 pub use web::{Cause, Web};
 pub use writes::give;
