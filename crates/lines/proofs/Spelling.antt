@@ -11,10 +11,10 @@ use Rattle.terms.specs.declared.kind.Kind.TheVariants.{Iri, Literal}
 use Rattle.terms.proofs.Runs.{run_take, run_none, run_whole}
 use Rattle.web.specs.Laws.{lawful_triple, lawful_iri, is_kind_iri}
 use Rattle.web.specs.Meaning.{Triple}
-use Rattle.lines.specs.Readings.{nothing, opens, says, and_then, behind, Cut, closed, marked, named, object_kind, ended, opening, triple, statement, or_opens, or_states}
+use Rattle.lines.specs.Readings.{Said, nothing, opens, states, unreadable, says, and_then, behind, Cut, closed, marked, named, object_kind, ended, opening, triple, statement, or_opens, or_states}
 use Rattle.lines.specs.Runs.{term_byte}
 use Rattle.lines.specs.Parts.{some_same, then_inv, marked_inv, named_inv, statement_inv, statement_lawful, ended_inv}
-use Rattle.lines.specs.Spelled.{in_marks, spelled, opening_line, NothingWhenEmpty, OpensAsSpelled, StatesAsSpelled}
+use Rattle.lines.specs.Spelled.{in_marks, spelled, opening_line, SpellsNone, NothingWhenEmpty, OpensAsSpelled, StatesAsSpelled, UnreadableElse, AsSpelled, OnlySays}
 use Rattle.lines.proofs.Fronted.{then_some}
 use Rattle.lines.proofs.Sayings.{says_nil, says_cons, says_opening, says_statement, states_by, opens_at}
 
@@ -79,7 +79,7 @@ spelled_named x r e =
 
 -- ---- whole lines
 
-pub nothing_when_empty : NothingWhenEmpty
+nothing_when_empty : NothingWhenEmpty says
 nothing_when_empty [] = ((λ e. refl), λ e. says_nil)
 nothing_when_empty (b ∷ bs) = ((λ e. go (opening (b ∷ bs)) (statement (b ∷ bs)) (sym (says_cons b bs) ∙ e)), λ e. let z : ◌≡◌ {A = ℕ} 0 1 = cc in absurd (omega arith))
   where
@@ -113,7 +113,7 @@ spelled_opening a e =
     then_some (λ r. and_then (marked Iri r) (λ c. and_then (ended c.rest) (λ d. Some c.bytes))) (in_marks Iri a) (behind_text (codes "@page ") (in_marks Iri a))
     ∙ then_some (λ c. and_then (ended c.rest) (λ d. Some c.bytes)) (record { bytes = a; rest = [] }) (ap (marked Iri) (sym (append-nil (in_marks Iri a))) ∙ spelled_marked Iri a [] e)
 
-pub opens_as_spelled : OpensAsSpelled
+opens_as_spelled : OpensAsSpelled says
 opens_as_spelled line a = ((λ e. opening_spelled line a (opens_by line a e)), λ s e. ap says s ∙ says_opening (opening_line a) a (spelled_opening a e))
 
 statement_spelled : (line : List ℕ) (t : Triple) → statement line ≡ Some t → line ≡ spelled t
@@ -173,8 +173,36 @@ spelled_no_opening t e = opens_at (spelled t) (go t.subject.kind)
     go Iri f = omega arith
     go Literal f = omega arith
 
-pub states_as_spelled : StatesAsSpelled
+states_as_spelled : StatesAsSpelled says
 states_as_spelled line t = (
   (λ e. (statement_spelled line t (states_by line t e), statement_lawful line t (states_by line t e))),
   λ s e. ap says s ∙ says_statement (spelled t) t (spelled_no_opening t e) (spelled_back t e),
 )
+
+unreadable_else : UnreadableElse says
+unreadable_else line = (
+  (λ e. record {
+    some = λ n. let z = (nothing_when_empty line).1 n in cc;
+    no_opening = λ a h n. let z = (opens_as_spelled line a).1 n h in cc;
+    no_triple = λ t h n. let z = (states_as_spelled line t).1 n h in cc;
+  }),
+  λ u. go (says line) refl u,
+)
+  where
+    go : (s : Said) → says line ≡ s → SpellsNone line → s ≡ unreadable
+    go nothing e u = absurd (u.some ((nothing_when_empty line).0 e))
+    go (opens a) e u = let o = (opens_as_spelled line a).0 e in absurd (u.no_opening a o.1 o.0)
+    go (states t) e u = let o = (states_as_spelled line t).0 e in absurd (u.no_triple t o.1 o.0)
+    go unreadable e u = refl
+
+pub as_spelled : AsSpelled says
+as_spelled = record { empty = nothing_when_empty; opening = opens_as_spelled; triple = states_as_spelled; other = unreadable_else }
+
+pub only_says : OnlySays
+only_says f h line = go (says line) refl
+  where
+    go : (s : Said) → says line ≡ s → f line ≡ s
+    go nothing e = (h.empty line).1 ((nothing_when_empty line).0 e)
+    go (opens a) e = let o = (opens_as_spelled line a).0 e in (h.opening line a).1 o.0 o.1
+    go (states t) e = let o = (states_as_spelled line t).0 e in (h.triple line t).1 o.0 o.1
+    go unreadable e = (h.other line).1 ((unreadable_else line).0 e)

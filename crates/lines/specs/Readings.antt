@@ -1,5 +1,6 @@
 -- What a line says: it opens a page, `@page <IRI>`, or states a triple, `<s> <p> o .`, with single spaces. Any other line with a byte in it is
--- unreadable. Here a line is read from its front; the laws say the same by how a line is spelled.
+-- unreadable. Here a line is read from its front on, as the code does it. `Spelled.antt` says what a line says by how it is spelled, and that no other function
+-- says the same: that is the page to check.
 use Rattle.std.specs.Prelude.{ℕ, cond, List, [], ◌∷◌, length, take_while, drop, Some, None, codes, Option, ◌==◌}
 use Rattle.terms.specs.Bytes.{leads}
 use Rattle.terms.specs.Lawful.{lawful_bytes}

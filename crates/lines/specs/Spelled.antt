@@ -1,5 +1,5 @@
--- The format of page files, by how it is spelled: which bytes lie in lines, and which line says what. These laws hold of `lines` and `says`, and leave them
--- no choice.
+-- The format of lines by how it is spelled: which bytes lie in lines, and which line says what. These laws hold of `lines` and `says` and of no other functions,
+-- so this is the page to check against the format's description. How `says` reads a line from its front on need not be checked.
 use Rattle.std.specs.Prelude.{◌≡◌, ℕ, true, false, ◌⊎◌, List, [], ◌∷◌, ◌++◌, codes, ◌==◌, ◌≢◌}
 use Rattle.terms.specs.Lawful.{is_iri}
 use Rattle.terms.specs.Marks as mark
@@ -9,7 +9,7 @@ use Rattle.terms.specs.declared.kind.Kind.TheVariants.{Iri}
 use Rattle.web.specs.Laws.{lawful_triple}
 use Rattle.web.specs.Meaning.{Triple}
 use Rattle.lines.specs.Lines.{lines}
-use Rattle.lines.specs.Readings.{nothing, opens, states, says}
+use Rattle.lines.specs.Readings.{Said, nothing, opens, states, unreadable, says}
 
 -- ---- lines
 
@@ -46,12 +46,32 @@ spelled t = spelled_term t.subject ++ (codes " " ++ (spelled_term t.predicate ++
 abbrev pub opening_line : List ℕ → List ℕ
 opening_line a = codes "@page " ++ in_marks Iri a
 
-abbrev pub NothingWhenEmpty : Type 0
-NothingWhenEmpty = (line : List ℕ) → (says line ≡ nothing → line ≡ []) × (line ≡ [] → says line ≡ nothing)
+-- the line has a byte, and spells neither an opening nor a triple
+pub record SpellsNone (line : List ℕ) : Type 0 where
+  pub some : line ≢ []
+  pub no_opening : (a : List ℕ) → is_iri a ≡ true → line ≢ opening_line a
+  pub no_triple : (t : Triple) → lawful_triple t ≡ true → line ≢ spelled t
 
-abbrev pub OpensAsSpelled : Type 0
-OpensAsSpelled = (line a : List ℕ) → (says line ≡ opens a → (line ≡ opening_line a) × (is_iri a ≡ true)) × (line ≡ opening_line a → is_iri a ≡ true → says line ≡ opens a)
+abbrev pub NothingWhenEmpty : (List ℕ → Said) → Type 0
+NothingWhenEmpty f = (line : List ℕ) → (f line ≡ nothing → line ≡ []) × (line ≡ [] → f line ≡ nothing)
 
-abbrev pub StatesAsSpelled : Type 0
-StatesAsSpelled =
-    (line : List ℕ) (t : Triple) → (says line ≡ states t → (line ≡ spelled t) × (lawful_triple t ≡ true)) × (line ≡ spelled t → lawful_triple t ≡ true → says line ≡ states t)
+abbrev pub OpensAsSpelled : (List ℕ → Said) → Type 0
+OpensAsSpelled f = (line a : List ℕ) → (f line ≡ opens a → (line ≡ opening_line a) × (is_iri a ≡ true)) × (line ≡ opening_line a → is_iri a ≡ true → f line ≡ opens a)
+
+abbrev pub StatesAsSpelled : (List ℕ → Said) → Type 0
+StatesAsSpelled f =
+    (line : List ℕ) (t : Triple) → (f line ≡ states t → (line ≡ spelled t) × (lawful_triple t ≡ true)) × (line ≡ spelled t → lawful_triple t ≡ true → f line ≡ states t)
+
+abbrev pub UnreadableElse : (List ℕ → Said) → Type 0
+UnreadableElse f = (line : List ℕ) → (f line ≡ unreadable → SpellsNone line) × (SpellsNone line → f line ≡ unreadable)
+
+-- f tells of every line what it spells
+pub record AsSpelled (f : List ℕ → Said) : Type 0 where
+  pub empty : NothingWhenEmpty f
+  pub opening : OpensAsSpelled f
+  pub triple : StatesAsSpelled f
+  pub other : UnreadableElse f
+
+-- no function but `says` does
+abbrev pub OnlySays : Type 0
+OnlySays = (f : List ℕ → Said) → AsSpelled f → (line : List ℕ) → f line ≡ says line

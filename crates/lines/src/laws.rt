@@ -1,11 +1,11 @@
 // The format by how it is spelled, apart from how it is read.
-ghost use Rattle.lines.specs.Spelled.{EveryFileIsLaid, LaidOnce, NothingWhenEmpty, OpensAsSpelled, StatesAsSpelled};
+ghost use Rattle.lines.specs.Spelled.{AsSpelled, EveryFileIsLaid, LaidOnce, OnlySays};
+ghost use Rattle.lines.specs.Readings.{says};
 
-// The lines are the file, and no other list of lines is. A line says what it spells.
+// The lines are the file, and no other list of lines is. `says` tells of every line what it spells, and no other function does.
 pub fn lines_are_spelled()
     ensures laid { EveryFileIsLaid }
     ensures once { LaidOnce }
-    ensures nothing { NothingWhenEmpty }
-    ensures opens { OpensAsSpelled }
-    ensures states { StatesAsSpelled }
+    ensures spelled { AsSpelled says }
+    ensures only { OnlySays }
 {}

@@ -1,4 +1,5 @@
 -- What a page file means at each IRI. A line belongs to the page that the last opening up to it opened, so an opening belongs to its own page. Lines are numbered from 1.
+-- What bytes are lines and what a line says is to be checked in `Spelled.antt` of the crate `lines`.
 use Rattle.std.specs.Prelude.{ℕ, ◌+◌, Bool, false, cond, List, [], ◌∷◌, length, take_while, Some, None, Option, nat_le}
 use Rattle.std.specs.Str.{bytes_eq}
 use Rattle.terms.specs.Lawful.{is_iri}
