@@ -9,12 +9,11 @@ ghost use Rattle.pages.specs.Steps.{Holds, Opened, Passed};
 use crate::cause::{Fault, PageCause};
 use lines::{Line, Lines, Saying, Stated, opening, said};
 
-// How many triples a page states, the one at a place, and the lines behind.
-#[derive(Drop)]
+// How many triples a page states, and the one at a place.
+#[derive(Clone, Copy)]
 pub struct Seen<'a> {
     pub count: usize,
     pub stated: Option<Stated<'a>>,
-    pub behind: Lines<'a>,
 }
 
 // Whether a line opens the page of an address.
@@ -32,10 +31,14 @@ fn find<'a>(from: Lines<'a>, address: &[u8]) -> Option<Lines<'a>>
     lines.any(|line| opens(line, address)).then_some(lines)
 }
 
-// Passes the lines of a page that is open, until another page is opened. Tried as a `for` over `by_ref`: the `next` of a `&mut` doesn't promise that it keeps
+// Passes the lines of a page that is open, until another page is opened, and tells the lines behind too. Tried as a `for` over `by_ref`: the `next` of a `&mut` doesn't promise that it keeps
 // its reference, so a proof knows nothing of the lines behind the loop, which are wanted.
-fn page<'a>(from: Lines<'a>, address: &[u8], place: usize) -> Result<Seen<'a>, PageCause>
-    ensures { MatchResult result (λ s. Passed address.now from.entry.passed from.entry.rest.now place s.count s.stated None s.behind.passed s.behind.rest.now) (λ e. first_fault (lines_on address.now from.entry.passed (Some address.now) (lines_of from.entry.rest.now)) ≡ Some e) }
+fn page<'a>(
+    from: Lines<'a>,
+    address: &[u8],
+    place: usize,
+) -> Result<(Seen<'a>, Lines<'a>), PageCause>
+    ensures { MatchResult result (λ s. Passed address.now from.entry.passed from.entry.rest.now place s.0.count s.0.stated None s.1.passed s.1.rest.now) (λ e. first_fault (lines_on address.now from.entry.passed (Some address.now) (lines_of from.entry.rest.now)) ≡ Some e) }
 {
     let mut behind = from;
     let mut count = 0;
@@ -60,11 +63,7 @@ fn page<'a>(from: Lines<'a>, address: &[u8], place: usize) -> Result<Seen<'a>, P
             }
         }
     }
-    Ok(Seen {
-        count,
-        stated,
-        behind,
-    })
+    Ok((Seen { count, stated }, behind))
 }
 
 // What the page of an address holds. Every line is passed once.
@@ -79,8 +78,8 @@ pub fn scan<'a>(file: &'a [u8], address: &[u8], place: usize) -> Result<Option<S
     let Some(opened) = find(start, address) else {
         return Ok(None);
     };
-    let seen = page(opened, address, place)?;
-    if let Some(again) = find(seen.behind, address) {
+    let (seen, behind) = page(opened, address, place)?;
+    if let Some(again) = find(behind, address) {
         return Err(PageCause {
             fault: Fault::OpenedAgain,
             line: again.passed,
