@@ -7,4 +7,4 @@ use Rattle.pages.specs.Samples.{Sampled}
 
 pub sampled : Sampled
 unfolding lines says lines_on
-sampled = record { whole = refl; cut = refl; unread = refl; again = refl; none = refl; unknown = refl; no_iri = refl }
+sampled = record { whole = refl; cut_bare = refl; cut = refl; cut_first = refl; unread = refl; again = refl; none = refl; unknown = refl; no_iri = refl }

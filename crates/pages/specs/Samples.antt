@@ -25,7 +25,9 @@ listed = triple (codes "m:1") (codes "p:alt") Iri (codes "m:2") ∷ triple (code
 
 pub record Sampled : Type 0 where
   pub whole : page_meaning sample (codes "m:1") ≡ found listed
-  pub cut : page_meaning sample (codes "m:1#x#y") ≡ found listed
+  pub cut_bare : page_meaning sample (codes "m:1#") ≡ found listed
+  pub cut : page_meaning sample (codes "m:1#x") ≡ found listed
+  pub cut_first : page_meaning sample (codes "m:1#x#y") ≡ found listed
   pub unread : page_meaning sample (codes "m:2") ≡ broken (cause Unreadable 7)
   pub again : page_meaning (front ++ back) (codes "m:2") ≡ broken (cause OpenedAgain 8)
   pub none : page_meaning sample (codes "m:3") ≡ found []
