@@ -1,5 +1,5 @@
 -- The laws of page files.
-use Rattle.std.proofs.Common.{◌≡◌, ℕ, suc, ◌+◌, ◌<◌, Bool, true, false, cond, not, eqb, List, [], ◌∷◌, ◌++◌, length, Some, None, Option, sym, refl, ap, ◌∙◌, subst, ap₂, inl, inr, append_assoc, add-zero, arith}
+use Rattle.std.proofs.Common.{◌≡◌, ℕ, suc, ◌+◌, ◌<◌, Bool, true, false, cond, not, eqb, ◌⊎◌, List, [], ◌∷◌, ◌++◌, length, Some, None, Option, sym, refl, ap, ◌∙◌, subst, ap₂, inl, inr, append_assoc, add-zero, arith}
 use Rattle.std.proofs.lemmas.List.{append-nil, length-append}
 use Rattle.std.proofs.lemmas.Slice.Eq.{bytes_eq-Decides}
 use Rattle.std.proofs.lemmas.Bool.Decides.{not_from_Decides}
@@ -13,9 +13,9 @@ use Rattle.lines.proofs.Cutting.{lines_nil, lines_cons, lines_first}
 use Rattle.lines.proofs.Sayings.{says_nil, says_cons, says_opening}
 use Rattle.web.specs.Meaning.{Triple, Looked, found, absent}
 use Rattle.pages.specs.declared.cause.PageCause.{PageCause}
-use Rattle.pages.specs.Pages.{Numbered, numbered, page_after, is_page, lines_on, stated, first_fault, judged_by, page_of, address}
-use Rattle.pages.specs.Laws.{CutBeforeHash, FirstOpens, BeginsWithItsOpening, SameFor, OnlyItsLines, OpensOnly, OnePage, EndsLine, FurtherPage, NeverOpens, State, BeginPage, FoundWithItsTriples}
-use Rattle.pages.proofs.Placing.{next, on_nil, on_next, off_pass, on_other, on_opens, on_stays}
+use Rattle.pages.specs.Pages.{Numbered, numbered, page_after, is_page, lines_on, with_stated, stated, fault_of, or_else, first_fault, judged_by, page_of, address}
+use Rattle.pages.specs.Laws.{CutBeforeHash, FirstOpens, BeginsWithItsOpening, SameFor, OnlyItsLines, LastFeed, OpensOnly, OnePage, EndsLine, FurtherPage, NeverOpens, State, BeginPage, FoundWithItsTriples}
+use Rattle.pages.proofs.Placing.{next, on_nil, on_next, on_says, off_pass, on_other, on_opens, on_stays}
 
 -- ---- addresses
 
@@ -155,6 +155,74 @@ further_page file page iri a ends one f =
     ap (at_address iri)
     (ap (lines_on b 0 None) (lines_further file page ends) ∙ on_append b 0 None (lines file) (lines page)
     ∙ ap (λ ys. lines_on b 0 None (lines file) ++ ys) (other_page b a (0 + length (lines file)) (open_behind None (lines file)) (lines page) one f) ∙ append-nil (lines_on b 0 None (lines file)))
+
+-- ---- an LF at the file's end
+
+-- it ends the last line, or it is an empty line more
+lines_fed : (file : List ℕ) → (lines (file ++ (10 ∷ [])) ≡ lines file) ⊎ (lines (file ++ (10 ∷ [])) ≡ lines file ++ ([] ∷ []))
+lines_fed [] = inr (lines_cons 10 [] ∙ ap (λ ys. [] ∷ ys) lines_nil ∙ sym (ap (λ ys. ys ++ ([] ∷ [])) lines_nil))
+lines_fed (b ∷ bs) = elim (go (eqb b 10) bs (lines_fed bs)) [
+  | inl e ↦ inl (lines_cons b (bs ++ (10 ∷ [])) ∙ e ∙ sym (lines_cons b bs))
+  | inr e ↦ inr (lines_cons b (bs ++ (10 ∷ [])) ∙ e ∙ sym (ap (λ ys. ys ++ ([] ∷ [])) (lines_cons b bs)))
+]
+  where
+    more : Bool → List ℕ → List (List ℕ)
+    more t bs = cond t ([] ∷ lines bs) (onto b (lines bs))
+
+    go : (t : Bool) (bs : List ℕ) → (lines (bs ++ (10 ∷ [])) ≡ lines bs) ⊎ (lines (bs ++ (10 ∷ [])) ≡ lines bs ++ ([] ∷ []))
+        → (more t (bs ++ (10 ∷ [])) ≡ more t bs) ⊎ (more t (bs ++ (10 ∷ [])) ≡ more t bs ++ ([] ∷ []))
+    go true bs (inl e) = inl (ap (λ ys. [] ∷ ys) e)
+    go true bs (inr e) = inr (ap (λ ys. [] ∷ ys) e)
+    go false bs (inl e) = inl (ap (onto b) e)
+    go false [] (inr e) = inl (ap (onto b) (e ∙ ap (λ ys. ys ++ ([] ∷ [])) lines_nil) ∙ sym (ap (onto b) lines_nil))
+    go false (d ∷ ds) (inr e) = inr (ap (onto b) e ∙ onto_append b (lines (d ∷ ds)) ([] ∷ []) (omega (arith, ap length (lines_first (d ∷ ds) (omega arith)))))
+
+-- these lines state nothing, and none is at fault
+abbrev Idle : List Numbered → Type 0
+Idle ys = (first_fault ys ≡ None) × (stated ys ≡ [])
+
+idle_behind : (xs ys : List Numbered) → Idle ys → (first_fault (xs ++ ys) ≡ first_fault xs) × (stated (xs ++ ys) ≡ stated xs)
+idle_behind [] ys h = h
+idle_behind (x ∷ xs) ys h = let r = idle_behind xs ys h in (ap (or_else (fault_of x.number x.what)) r.0, ap (with_stated x.what) r.1)
+
+idle_empty : (a : List ℕ) (n : ℕ) (p : Option (List ℕ)) → Idle (lines_on a n p ([] ∷ []))
+idle_empty a n p = subst Idle (sym (on_says a n p [] nothing [] says_nil)) (go (is_page a p))
+  where
+    none : Idle (lines_on a (n + 1) p [])
+    none = subst Idle (sym (on_nil a (n + 1) p)) (refl, refl)
+
+    go : (t : Bool) → Idle (cond t (numbered (n + 1) nothing ∷ lines_on a (n + 1) p []) (lines_on a (n + 1) p []))
+    go true = none
+    go false = none
+
+empty_last : (a : List ℕ) (n : ℕ) (ls : List (List ℕ)) → page_of (lines_on a n None (ls ++ ([] ∷ []))) ≡ page_of (lines_on a n None ls)
+empty_last a n [] = ap page_of (off_pass a n [] [] refl ∙ on_nil a (n + 1) None) ∙ sym (ap page_of (on_nil a n None))
+empty_last a n (l ∷ ls) = go (opening l) refl (empty_last a (n + 1) ls)
+  where
+    named : (b : List ℕ) (t : Bool) → bytes_eq b a ≡ t → opening l ≡ Some b → page_of (lines_on a (n + 1) None (ls ++ ([] ∷ []))) ≡ page_of (lines_on a (n + 1) None ls)
+        → page_of (lines_on a n None (l ∷ (ls ++ ([] ∷ [])))) ≡ page_of (lines_on a n None (l ∷ ls))
+    named b true e o h =
+        let says-it = says_opening l b o in
+        let this = (bytes_eq-Decides b a).0 e in
+        let joined = on_append a (n + 1) (Some a) ls ([] ∷ []) in
+        let idle = idle_behind (lines_on a (n + 1) (Some a) ls) (lines_on a (n + 1 + length ls) (open_behind (Some a) ls) ([] ∷ [])) (idle_empty a (n + 1 + length ls) (open_behind (Some a) ls)) in
+        ap page_of (on_opens a n None l b (ls ++ ([] ∷ [])) says-it this) ∙ ap₂ judged_by (ap first_fault joined ∙ idle.0) (ap stated joined ∙ idle.1)
+        ∙ sym (ap page_of (on_opens a n None l b ls says-it this))
+    named b false e o h =
+        let says-it = says_opening l b o in
+        let apart = not_from_Decides (bytes_eq b a) (bytes_eq-Decides b a) e in
+        ap page_of (on_other a n None l b (ls ++ ([] ∷ [])) says-it apart) ∙ h ∙ sym (ap page_of (on_other a n None l b ls says-it apart))
+
+    go : (o : Option (List ℕ)) → opening l ≡ o → page_of (lines_on a (n + 1) None (ls ++ ([] ∷ []))) ≡ page_of (lines_on a (n + 1) None ls)
+        → page_of (lines_on a n None (l ∷ (ls ++ ([] ∷ [])))) ≡ page_of (lines_on a n None (l ∷ ls))
+    go None e h = ap page_of (off_pass a n l (ls ++ ([] ∷ [])) e) ∙ h ∙ sym (ap page_of (off_pass a n l ls e))
+    go (Some b) e h = named b (bytes_eq b a) refl e h
+
+pub last_feed : LastFeed
+last_feed file iri = ap (λ (l : Looked PageCause). cond (is_iri iri) l absent) (elim (lines_fed file) [
+  | inl e ↦ ap (λ ls. page_of (lines_on (address iri) 0 None ls)) e
+  | inr e ↦ ap (λ ls. page_of (lines_on (address iri) 0 None ls)) e ∙ empty_last (address iri) 0 (lines file)
+])
 
 -- ---- the first line on a page
 

@@ -1,9 +1,11 @@
 -- Laws of page files, in the words of lines, openings and pages.
-use Rattle.std.specs.Prelude.{◌≡◌, ℕ, ◌≤◌, true, false, ◌⊎◌, List, [], ◌∷◌, ◌++◌, length, Some, None, codes, Option, ◌==◌, ◌≢◌}
+use Rattle.std.specs.Prelude.{◌≡◌, ℕ, ◌≤◌, true, false, ◌⊎◌, List, [], ◌∷◌, ◌++◌, map, length, Some, None, codes, Option, ◌==◌, ◌≢◌}
 use Rattle.terms.specs.Lawful.{is_iri}
 use Rattle.lines.specs.Lines.{lines}
-use Rattle.lines.specs.Readings.{opening, says, nothing, opens, states}
-use Rattle.web.specs.Meaning.{Triple, found, triples}
+use Rattle.lines.specs.Readings.{Said, opening, says, nothing, opens, states}
+use Rattle.web.specs.Meaning.{Triple, Looked, found, absent, broken, triples}
+use Rattle.pages.specs.declared.cause.Fault.{Fault}
+use Rattle.pages.specs.declared.cause.PageCause.{PageCause}
 use Rattle.pages.specs.Pages.{Numbered, lines_on, address, page_after, page_at, page_meaning}
 
 -- ---- an address is cut before the first #
@@ -35,6 +37,26 @@ SameFor a p (l ∷ ls) (m ∷ ms) = (opening l ≡ opening m) × (page_after p (
 
 abbrev pub OnlyItsLines : Type 0
 OnlyItsLines = (file other iri : List ℕ) → SameFor (address iri) None (lines file) (lines other) → page_meaning file iri ≡ page_meaning other iri
+
+-- ---- where a page's lines stand, and what else does, moves the number of a fault and nothing else
+
+-- what the lines on a page say, in their order
+abbrev pub sayings : List ℕ → List ℕ → List Said
+sayings a file = map (λ l. l.what) (lines_on a 0 None (lines file))
+
+-- what is held, without the number of a line at fault
+abbrev pub unnumbered : Looked PageCause → Looked Fault
+unnumbered (found ts) = found ts
+unnumbered absent = absent
+unnumbered (broken c) = broken c.fault
+
+abbrev pub SayingsDecide : Type 0
+SayingsDecide = (file other iri : List ℕ) → sayings (address iri) file ≡ sayings (address iri) other → unnumbered (page_meaning file iri) ≡ unnumbered (page_meaning other iri)
+
+-- ---- an LF at the file's end changes nothing: it ends the last line, or adds an empty one
+
+abbrev pub LastFeed : Type 0
+LastFeed = (file iri : List ℕ) → page_meaning (file ++ codes "\n") iri ≡ page_meaning file iri
 
 -- ---- a further page changes no other address
 
