@@ -3,52 +3,58 @@ use std::alloc::AllocError;
 use std::test::Fail;
 use telling::write_web;
 
-// The file, as heads, pieces with how often each stands there, and tails. The last line has no line feed.
-static FILE: [(&[u8], &[u8], usize, &[u8]); 9] = [
-    (b"<m:1> <p> <lost> .\nbefore the first page\n", b"", 0, b""),
-    (
-        b"@page <m:1>\n<m:1> <p:alt> <m:2> .\n\n<m:9> <p:val> \"10 u\" .\n",
-        b"",
-        0,
-        b"",
-    ),
-    (b"@page <m:1#x>\n<m:1> <p> <unreached> .\n", b"", 0, b""),
-    (
-        b"@page <m:2>\n<m:2> <p> <o> .\n<m:2> oops\n@page <m:2>\n",
-        b"",
-        0,
-        b"",
-    ),
-    (b"@page <m:3>\n@page <m:4\n@page <m:5>\n", b"", 0, b""),
-    (
-        b"@page <\x80\xff>\n<\x80> <\xfe> \"\x81 \xff\" .\n@page <m:5>\n<a> <b> <c> .\n",
-        b"",
-        0,
-        b"",
-    ),
-    (
-        b"@page <m:6>\n<a> <b> \"c\" .\r\n@page <",
-        b"i",
-        128,
-        b">\n",
-    ),
-    (b"<a> <b> \"", b"l", 128, b"\" .\n@page <m:7>\n"),
-    (b"<a> <b> <", b"i", 129, b"> .\n@page <m:8>\n<a> <b> \"\" ."),
+// A part of the file, of an IRI or of an answer.
+#[derive(Clone, Copy)]
+enum Piece {
+    Text(&'static [u8]),
+    // A byte, so many times.
+    Times(u8, usize),
+    // Each byte from 0x80 to 0xFF once.
+    High,
+}
+
+// The last line has no line feed.
+static FILE: [Piece; 17] = [
+    Piece::Text(b"<m:1> <p> <lost> .\nbefore the first page\n"),
+    Piece::Text(b"@page <m:1>\n<m:1> <p:alt> <m:2> .\n\n<m:9> <p:val> \"10 u\" .\n"),
+    Piece::Text(b"@page <m:1#x>\n<m:1> <p> <unreached> .\n"),
+    Piece::Text(b"@page <m:2>\n<m:2> <p> <o> .\n<m:2> oops\n@page <m:2>\n"),
+    Piece::Text(b"@page <m:3>\n@page <m:4\n@page <m:5>\n"),
+    Piece::Text(b"@page <\x80\xff>\n<\x80> <\xfe> \"\x81 \xff\" .\n@page <m:5>\n<a> <b> <c> .\n"),
+    Piece::Text(b"@page <m:6>\n<a> <b> \"c\" .\r\n@page <"),
+    Piece::Times(b'i', 128),
+    Piece::Text(b">\n<a> <b> \""),
+    Piece::Times(b'l', 128),
+    Piece::Text(b"\" .\n@page <m:7>\n<a> <b> <"),
+    Piece::Times(b'i', 129),
+    Piece::Text(b"> .\n@page <m:10>\n<a> <b> \""),
+    Piece::Times(b'l', 129),
+    Piece::Text(b"\" .\n@page <m:11>\n<a> <b> \""),
+    Piece::High,
+    Piece::Text(b"\" .\n@page <m:12>\n<a> <b> \"\x7f\" .\n@page <m:8>\n<a> <b> \"\" ."),
 ];
 
-fn spell(out: &mut Vec<u8>) -> Result<(), AllocError> {
-    for (head, piece, count, tail) in FILE.iter() {
-        out.extend_from_slice(head)?;
-        for _ in 0..*count {
-            out.extend_from_slice(piece)?;
+fn spell(pieces: &[Piece], out: &mut Vec<u8>) -> Result<(), AllocError> {
+    for piece in pieces {
+        match *piece {
+            Piece::Text(text) => out.extend_from_slice(text)?,
+            Piece::Times(byte, count) => {
+                for _ in 0..count {
+                    out.push(byte)?;
+                }
+            }
+            Piece::High => {
+                for byte in 0x80..=0xFF {
+                    out.push(byte)?;
+                }
+            }
         }
-        out.extend_from_slice(tail)?;
     }
     Ok(())
 }
 
 // An IRI, and what the file answers.
-static ROWS: [(&[u8], &[u8]); 19] = [
+static ROWS: [(&[u8], &[u8]); 21] = [
     (
         b"m:1",
         b"found 2 <m:1> <p:alt> <m:2> <m:9> <p:val> \"10 u\" 14 14 14 15",
@@ -88,7 +94,34 @@ static ROWS: [(&[u8], &[u8]); 19] = [
     (b"m:6", b"broken 1 21 14 14 14 14"),
     // A term has at most 128 bytes.
     (b"m:7", b"broken 1 25 14 14 14 14"),
+    (b"m:10", b"broken 1 27 14 14 14 14"),
+    // No term has the byte 0x7F.
+    (b"m:12", b"broken 1 31 14 14 14 14"),
     (b"m:8", b"found 1 <a> <b> \"\" 14 14 14 0"),
+];
+
+// The same, with terms of 128 bytes and an IRI of 129.
+static LONG_ROWS: [(&[Piece], &[Piece]); 3] = [
+    (
+        &[Piece::Times(b'i', 128)],
+        &[
+            Piece::Text(b"found 1 <a> <b> \""),
+            Piece::Times(b'l', 128),
+            Piece::Text(b"\" 14 14 14 15"),
+        ],
+    ),
+    (
+        &[Piece::Times(b'i', 129)],
+        &[Piece::Text(b"absent 14 14 14 14")],
+    ),
+    (
+        &[Piece::Text(b"m:11")],
+        &[
+            Piece::Text(b"found 1 <a> <b> \""),
+            Piece::High,
+            Piece::Text(b"\" 14 14 14 15"),
+        ],
+    ),
 ];
 
 #[test]
@@ -96,7 +129,7 @@ fn one_file(rt: HostRuntime) -> Result<(), Fail> {
     let heap = rt.alloc();
     let mut file = Vec::new(heap);
     let mut out = Vec::new(heap);
-    spell(&mut file)?;
+    spell(&FILE, &mut file)?;
     let Ok(pages) = Pages::new(file.as_slice()) else {
         return Err(Fail::new("the file is refused"));
     };
@@ -104,6 +137,17 @@ fn one_file(rt: HostRuntime) -> Result<(), Fail> {
         out.clear();
         write_web(&pages, iri, &mut out)?;
         assert_eq!(rt; out.as_slice(), *line);
+    }
+    let mut iri = Vec::new(heap);
+    let mut line = Vec::new(heap);
+    for (iri_pieces, line_pieces) in LONG_ROWS.iter() {
+        iri.clear();
+        spell(iri_pieces, &mut iri)?;
+        line.clear();
+        spell(line_pieces, &mut line)?;
+        out.clear();
+        write_web(&pages, iri.as_slice(), &mut out)?;
+        assert_eq!(rt; out.as_slice(), line.as_slice());
     }
     Ok(())
 }
