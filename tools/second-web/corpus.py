@@ -41,6 +41,9 @@ FILES = [
     F,
 ]
 
+# a byte over the limit; a byte less, and the page would be found
+OVER = b"@page <m:1>\n".ljust(65537, b"\n")
+
 ADDRESSES = [
     b"m:1", b"m:2", b"m:3", b"m:4", b"m:5", b"", b"#", b"#x", b"m:1#", b"m:1#x", b"m:1#x#y", b"m:1##", b"m:1 ", b"<m:1>", b"m:1\n", b"\x80\xfe",
     LONG, LONG + b"i", b"m:1#" + LONG[4:], b"m:1#" + LONG[3:],
@@ -90,6 +93,8 @@ def cases():
     for at, data in enumerate(FILES):
         for iri in ADDRESSES:
             yield data, FILES[at - 1], iri
+    yield OVER, F, b"m:1"
+    yield F, OVER, b"m:1"
     dice = random.Random(20240611)
     for _ in range(500):
         first, second = random_file(dice), random_file(dice)
