@@ -1,5 +1,5 @@
 /* A plain scanner of page files, to measure the proved one against: every call passes the file from its start, as a Web that copies nothing must.
-   It is written for speed and the same answers on files without fault, and checks every line of the page that it reads. */
+   It is written for speed and the same answers on files without fault and without # in the names of pages, and checks every line of the page that it reads. */
 #include <stdint.h>
 #include <stdio.h>
 #include <string.h>
