@@ -1,5 +1,5 @@
 -- The meaning of a page file keeps the laws of every Web. That a list has at most 65,535 triples follows from the length of the file: each line has a byte of
--- its own (its LF, or its last byte), and the page's opening states nothing. They prove the trait's law, so they stand here.
+-- its own (its LF, or its last byte), and the page's opening states nothing. The trait asks for these proofs as its law, so they stand here.
 use Rattle.std.specs.Prelude.{◌≡◌, ℕ, suc, ◌+◌, ◌≤◌, Bool, true, false, cond, List, [], ◌∷◌, length, Some, None, Option, ◌==◌, nat_le, refl}
 use Rattle.std.proofs.Common.{arith, leb-true}
 use Rattle.std.proofs.lemmas.Bool.{and_from, and_parts}

@@ -28,7 +28,7 @@ BeginsWithItsOpening = (file a : List ℕ) → FirstOpens a (lines_on a 0 None (
 
 -- ---- only a page's own lines and the openings matter to it
 
--- Line by line, from where p is open: they open the same page, or none, and on the page a they are the same line.
+-- Line by line, from where p is open: they open the same page, or none, and on the page a they are the same line. So there are equally many.
 abbrev pub SameFor : List ℕ → Option (List ℕ) → List (List ℕ) → List (List ℕ) → Type 0
 SameFor a p [] [] = Unit {0}
 SameFor a p [] (m ∷ ms) = ⊥
@@ -38,7 +38,7 @@ SameFor a p (l ∷ ls) (m ∷ ms) = (opening l ≡ opening m) × (page_after p (
 abbrev pub OnlyItsLines : Type 0
 OnlyItsLines = (file other iri : List ℕ) → SameFor (address iri) None (lines file) (lines other) → page_meaning file iri ≡ page_meaning other iri
 
--- ---- where a page's lines stand, and what else does, moves the number of a fault and nothing else
+-- ---- lines added to other pages, or dropped from them, move the number of a fault and nothing else
 
 -- what the lines on a page say, in their order
 abbrev pub sayings : List ℕ → List ℕ → List Said
