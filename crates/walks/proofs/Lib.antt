@@ -4,4 +4,5 @@ pub mod Gives
 pub mod Growth
 pub mod Listed
 pub mod Paths
+pub mod Recorded
 pub mod Translating

@@ -2,4 +2,5 @@ pub mod Crowds
 pub mod Needs
 pub mod Plans
 pub mod Promises
+pub mod Shelves
 pub mod Translated

@@ -1,4 +1,5 @@
 ghost use Rattle.walks.specs.Translated.{NamesAreFree};
+ghost use Rattle.walks.specs.Shelves.{SameShelf, EveryShelfHasItsUniverse, RecordSuffices, RecordDecides};
 ghost use Rattle.walks.specs.Promises.{WalkIsComplete, NothingElseMatters, WalksOnlyGrow, NeedsAreMet, NeedsAreListed};
 
 // What is needed suffices: over the documents that a walk needs, a bounded question has the solutions of the whole Web.
@@ -25,4 +26,16 @@ pub fn needs_are_listed<A>()
 // Under other names for its terms, as numbers, a question has its verdict, its rows and weights and its needs under those names.
 pub fn names_are_free<A, B>()
     ensures { NamesAreFree A B }
+{}
+
+// What a Web tells at the recorded addresses makes the shelf, and the shelf has its universe.
+pub fn record_makes_the_shelf<A>()
+    ensures same { SameShelf A }
+    ensures universe { EveryShelfHasItsUniverse A }
+{}
+
+// A list rests on the record alone: a record of all that is needed suffices, and what a Web tells elsewhere changes nothing.
+pub fn record_suffices<A>()
+    ensures suffices { RecordSuffices A }
+    ensures decides { RecordDecides A }
 {}

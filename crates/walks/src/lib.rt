@@ -4,5 +4,6 @@
 mod laws;
 
 pub use laws::{
-    names_are_free, needs_are_listed, nothing_else_matters, walk_is_complete, walks_only_grow,
+    names_are_free, needs_are_listed, nothing_else_matters, record_makes_the_shelf,
+    record_suffices, walk_is_complete, walks_only_grow,
 };

@@ -1,0 +1,80 @@
+-- The shelf of a record.
+use Rattle.std.proofs.Common.{◌≡◌, Bool, true, false, cond, ◌⊎◌, List, [], ◌++◌, sym, refl, ap, ◌∙◌, subst, inl, inr}
+use mathlib.Core.Path.{fun_ext}
+use Rattle.semantics.specs.Terms.{Terms, In, gather, has}
+use Rattle.semantics.specs.Webs.{Triple, terms_in, terms_listed, Met}
+use Rattle.semantics.proofs.Lists.{by_test, in_left, in_right, in_either, in_gather, gather_in, has_in, in_has}
+use Rattle.semantics.proofs.Universes.{unique, unique_distinct, unique_has}
+use Rattle.walks.specs.Shelves.{Told, triples, lists_of, shelf_by, AgreeOn, Settled, SameShelf, EveryShelfHasItsUniverse, RecordSuffices, RecordDecides}
+use Rattle.walks.proofs.Complete.{walk_is_complete}
+
+pub same_shelf : {A : Type 0} → SameShelf A
+same_shelf T recorded v w agree = fun_ext (λ i. by_test (has T i recorded)
+    (λ e. ap (λ t. cond (has T i recorded) (triples t) []) (agree i e))
+    (λ e. ap (λ b. cond b (triples (v i)) []) e ∙ sym (ap (λ b. cond b (triples (w i)) []) e)))
+
+module _ {A : Type 0} (T : Terms A) where
+  -- a shelf beside a Web that tells the same where it is recorded
+  shelf_part : (recorded : List A) (v w : A → Told A) → AgreeOn T recorded v w → (i : A) → (shelf_by T v recorded i ≡ lists_of w i) ⊎ (shelf_by T v recorded i ≡ [])
+  shelf_part recorded v w agree i = by_test (has T i recorded)
+      (λ e. inl (ap (λ b. cond b (triples (v i)) []) e ∙ ap triples (agree i e)))
+      (λ e. inr (ap (λ b. cond b (triples (v i)) []) e))
+
+  settled_list : (recorded : List A) (v w : A → Told A) → AgreeOn T recorded v w → (i : A) → Settled T v recorded i → shelf_by T v recorded i ≡ lists_of w i
+  settled_list recorded v w agree i h = ap (λ b. cond b (triples (v i)) []) h.0 ∙ ap triples (agree i h.0)
+
+pub record_suffices : {A : Type 0} → RecordSuffices A
+record_suffices T x k l tells recorded p o U V u v h m =
+    walk_is_complete T x k l (lists_of tells) (shelf_by T tells recorded) (shelf_part T recorded tells tells (λ i e. refl)) p o U V u v
+    (λ i n. settled_list T recorded tells tells (λ i e. refl) i (h i n)) m
+
+pub record_decides : {A : Type 0} → RecordDecides A
+record_decides T x k l v w recorded p o U W V u z s h agree m =
+    record_suffices T x k l v recorded p o U V u s h m
+    ∙ sym (walk_is_complete T x k l (lists_of w) (shelf_by T v recorded) (shelf_part T recorded v w agree) p o W V z s
+    (λ i n. settled_list T recorded v w agree i (h i n)) m)
+
+-- ---- its universe
+
+pub every_shelf_has_its_universe : {A : Type 0} → EveryShelfHasItsUniverse A
+every_shelf_has_its_universe {A} T x tells recorded p = (
+  unique x listed,
+  record {
+    distinct = unique_distinct x listed;
+    all = λ y m. unique_has x y listed ∙ in_has x y listed (in_it y m);
+    none_else = λ y h. out y (in_either y (terms_in p) others (has_in x y listed (sym (unique_has x y listed) ∙ h)));
+  },
+)
+  where
+    shelf : A → List (Triple A)
+    shelf = shelf_by T tells recorded
+
+    page : A → List A
+    page i = cond (T.is_iri i) (terms_listed (shelf i)) []
+
+    others : List A
+    others = gather page recorded
+
+    listed : List A
+    listed = terms_in p ++ others
+
+    on_page : (i y : A) (b : Bool) → b ≡ true → In y (terms_listed (shelf i)) → In y (cond b (terms_listed (shelf i)) [])
+    on_page i y b e j = subst (λ b. In y (cond b (terms_listed (shelf i)) [])) (sym e) j
+
+    off_page : (y : A) (l : List A) (b : Bool) → In y (cond b l []) → (b ≡ true) × In y l
+    off_page y l true j = (refl, j)
+    off_page y l false j = elim j [ ]
+
+    in_it : (y : A) → Met T shelf p y → In y listed
+    in_it y (inl h) = in_left y (terms_in p) others (has_in x y (terms_in p) h)
+    in_it y (inr h) = by_test (has T h.0 recorded)
+        (λ e. in_right y (terms_in p) others (gather_in page recorded h.0 y (has_in x h.0 recorded e)
+        (on_page h.0 y (T.is_iri h.0) h.1 (has_in x y (terms_listed (shelf h.0)) h.2))))
+        (λ e. elim (has_in x y [] (subst (λ b. has T y (terms_listed (cond b (triples (tells h.0)) [])) ≡ true) e h.2)) [ ])
+
+    out : (y : A) → In y (terms_in p) ⊎ In y others → Met T shelf p y
+    out y (inl i) = inl (in_has x y (terms_in p) i)
+    out y (inr i) =
+        let r = in_gather page recorded y i in
+        let s = off_page y (terms_listed (shelf r.0)) (T.is_iri r.0) r.2 in
+        inr (r.0, s.0, in_has x y (terms_listed (shelf r.0)) s.1)
