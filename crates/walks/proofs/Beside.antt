@@ -1,5 +1,5 @@
 -- Documents beside those that are needed change nothing: over more documents a walk reaches no more than it reached.
-use Rattle.std.proofs.Common.{◌≡◌, ℕ, Bool, true, false, cond, ◌&&◌, [], ◌++◌, None, Option, sym, refl, ap, ◌∙◌, subst, inl, inr}
+use Rattle.std.proofs.Common.{◌≡◌, ℕ, Bool, true, false, cond, ◌&&◌, [], ◌++◌, None, Option, sym, refl, ap, ◌∙◌, inl, inr}
 use lib.Bits.{bit_or}
 use Rattle.std.proofs.lemmas.Bool.{and_parts, and_from, or_left}
 use Rattle.weights.specs.Codes.{presence}
@@ -27,7 +27,7 @@ use Rattle.walks.specs.Promises.{whole, KeptByGrowth, NothingElseMatters}
 use Rattle.walks.proofs.Gives.{Known, Gives, gives_merge, gives_nothing, possible_gives}
 use Rattle.walks.proofs.Growth.{one_in, merges_in, kept_by_growth}
 use Rattle.walks.proofs.Paths.{Agreed, walk_path}
-use Rattle.walks.proofs.Complete.{end_allowed, end_known, shelf_less, question_terms}
+use Rattle.walks.proofs.Complete.{end_allowed, end_known, shelf_less, question_terms, shelf_grows}
 
 -- G has all that H has, and what the plan over H reads is there as it is in G
 module _ {A : Type 0} {T : Terms A} (x : Exact T) (G H : Graph A) (cG : Closed T G) (cH : Closed T H)
@@ -246,15 +246,5 @@ nothing_else_matters {A} T x less more part_of p o V U v u h = record {
     start : Stands x G H cG cH bigger (whole p)
     start = (o, question_terms x more less part_of p U V u v, gives_nothing x H, λ y c i z e. ap (λ l. cond (T.is_iri i) (about T i l) []) (sym (h i (record { asking = y; reached = c; reads = z; iri = e }))))
 
-    listed : (a : A) (t : A × A) → In t (H.context a) → In t (G.context a)
-    listed a t i = elim (part_of a) [
-      | inl e ↦ subst (λ l. In t (cond (T.is_iri a) (about T a l) [])) e i
-      | inr e ↦ elim (none (T.is_iri a) (subst (λ l. In t (cond (T.is_iri a) (about T a l) [])) e i)) [ ]
-    ]
-      where
-        none : (b : Bool) → In t (cond b [] []) → ⊥
-        none true j = j
-        none false j = j
-
     kept : KeptByGrowth T H G p
-    kept = kept_by_growth x H G cH cG (record { contexts = listed; terms = bigger }) p
+    kept = kept_by_growth x H G cH cG (shelf_grows x more less part_of p U V u v) p

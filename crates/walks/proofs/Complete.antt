@@ -25,7 +25,7 @@ use Rattle.semantics.proofs.Lines.{spot, spot_zero, integral_line, total_twice}
 use Rattle.semantics.proofs.Codings.{weight_coded}
 use Rattle.semantics.proofs.Universes.{web_closed}
 use Rattle.walks.specs.Plans.{left_first, fixed_to, allows, part, to_path, to_left_side, from_left_side, to_right_side, from_right_side, to_left_union, to_right_union, to_outside, to_option, there, Needed}
-use Rattle.walks.specs.Promises.{whole, WalkIsComplete}
+use Rattle.walks.specs.Promises.{whole, Grows, WalkIsComplete}
 use Rattle.semantics.proofs.Possible.{rows_of, in_rows, rows_possible}
 use Rattle.walks.proofs.Gives.{Known, Gives, gives_merge, gives_nothing, possible_gives}
 use Rattle.walks.proofs.Paths.{Agreed, walk_path}
@@ -248,6 +248,19 @@ module _ {A : Type 0} {T : Terms A} (x : Exact T) (web shelf : A → List (Tripl
 
   pub question_terms : (t : A) → In t (terms_in p) → has T t V ≡ true
   question_terms t i = v.all t (inl (in_has x t (terms_in p) i))
+
+  shelf_listed : (a : A) (t : A × A) → In t ((graph_of T shelf V).context a) → In t ((graph_of T web U).context a)
+  shelf_listed a t i = elim (part_of a) [
+    | inl e ↦ subst (λ l. In t (cond (T.is_iri a) (about T a l) [])) e i
+    | inr e ↦ elim (none (T.is_iri a) (subst (λ l. In t (cond (T.is_iri a) (about T a l) [])) e i)) [ ]
+  ]
+    where
+      none : (b : Bool) → In t (cond b [] []) → ⊥
+      none true j = j
+      none false j = j
+
+  pub shelf_grows : Grows T (graph_of T shelf V) (graph_of T web U)
+  shelf_grows = record { contexts = shelf_listed; terms = shelf_less }
 
 pub walk_is_complete : {A : Type 0} → WalkIsComplete A
 walk_is_complete T x k l web shelf part_of p o U V u v h m =

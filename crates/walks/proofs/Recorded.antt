@@ -1,12 +1,16 @@
 -- The shelf of a record.
-use Rattle.std.proofs.Common.{◌≡◌, Bool, true, false, cond, ◌⊎◌, List, [], ◌++◌, sym, refl, ap, ◌∙◌, subst, inl, inr}
+use Rattle.std.proofs.Common.{◌≡◌, Bool, true, false, cond, ◌⊎◌, List, [], ◌∷◌, ◌++◌, sym, refl, ap, ◌∙◌, subst, inl, inr}
 use mathlib.Core.Path.{fun_ext}
+use Rattle.std.proofs.lemmas.Bool.{or_right}
 use Rattle.semantics.specs.Terms.{Terms, In, gather, has}
-use Rattle.semantics.specs.Webs.{Triple, terms_in, terms_listed, Met}
+use Rattle.semantics.specs.Webs.{Triple, terms_in, terms_listed, Met, Universe}
 use Rattle.semantics.proofs.Lists.{by_test, in_left, in_right, in_either, in_gather, gather_in, has_in, in_has}
-use Rattle.semantics.proofs.Universes.{unique, unique_distinct, unique_has}
-use Rattle.walks.specs.Shelves.{Told, triples, lists_of, shelf_by, AgreeOn, Settled, SameShelf, EveryShelfHasItsUniverse, RecordSuffices, RecordDecides}
-use Rattle.walks.proofs.Complete.{walk_is_complete}
+use Rattle.semantics.proofs.Universes.{unique, unique_distinct, unique_has, web_closed}
+use Rattle.walks.specs.Plans.{Needed}
+use Rattle.walks.specs.Promises.{whole}
+use Rattle.walks.specs.Shelves.{Told, triples, lists_of, shelf_by, shelf_graph, AgreeOn, Settled, SameShelf, EveryShelfHasItsUniverse, RecordSuffices, RecordDecides, ShelvesGrow, Course, begins, looks, LookedUpStaysNeeded}
+use Rattle.walks.proofs.Complete.{shelf_grows, walk_is_complete}
+use Rattle.walks.proofs.Growth.{kept_by_growth}
 
 pub same_shelf : {A : Type 0} → SameShelf A
 same_shelf T recorded v w agree = fun_ext (λ i. by_test (has T i recorded)
@@ -78,3 +82,28 @@ every_shelf_has_its_universe {A} T x tells recorded p = (
         let r = in_gather page recorded y i in
         let s = off_page y (terms_listed (shelf r.0)) (T.is_iri r.0) r.2 in
         inr (r.0, s.0, in_has x y (terms_listed (shelf r.0)) s.1)
+
+-- ---- while it grows
+
+pub shelves_grow : {A : Type 0} → ShelvesGrow A
+shelves_grow T x less more part_of p V U v u = shelf_grows x more less part_of p U V u v
+
+pub looked_up_stays_needed : {A : Type 0} → LookedUpStaysNeeded A
+looked_up_stays_needed {A} T x tells p earlier looked c V v i h = go looked c V v i h
+  where
+    more : (i : A) (r : List A) (j : A) → (shelf_by T tells r j ≡ shelf_by T tells (i ∷ r) j) ⊎ (shelf_by T tells r j ≡ [])
+    more i r j = by_test (has T j r)
+        (λ e. inl (ap (λ b. cond b (triples (tells j)) []) (e ∙ sym (or_right (T.same j i) (has T j r) e))))
+        (λ e. inr (ap (λ b. cond b (triples (tells j)) []) e))
+
+    later : (r : List A) (j : A) (W : List A) → Universe T (shelf_by T tells r) p W → (V : List A) → Universe T (shelf_by T tells (j ∷ r)) p V
+        → (i : A) → Needed T (shelf_graph T tells r W) (whole p) i → Needed T (shelf_graph T tells (j ∷ r) V) (whole p) i
+    later r j W w V v i n =
+        (kept_by_growth x (shelf_graph T tells r W) (shelf_graph T tells (j ∷ r) V) (web_closed x (shelf_by T tells r) p W w) (web_closed x (shelf_by T tells (j ∷ r)) p V v)
+        (shelves_grow T x (shelf_by T tells r) (shelf_by T tells (j ∷ r)) (more j r) p W V w v) p).needs i n
+
+    go : (looked : List A) → Course T tells p earlier looked → (V : List A) → Universe T (shelf_by T tells (looked ++ earlier)) p V
+        → (i : A) → In i looked → Needed T (shelf_graph T tells (looked ++ earlier) V) (whole p) i
+    go [] begins V v i h = elim h [ ]
+    go (j ∷ is) (looks {V = W} c w n) V v i (inl h) = subst (λ z. Needed T (shelf_graph T tells (j ∷ (is ++ earlier)) V) (whole p) z) (sym h) (later (is ++ earlier) j W w V v j n)
+    go (j ∷ is) (looks {V = W} c w n) V v i (inr h) = later (is ++ earlier) j W w V v i (go is c W w i h)

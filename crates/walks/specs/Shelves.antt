@@ -1,15 +1,15 @@
 -- The shelf as a walk fills it: of all that a Web tells, the lists at the addresses that are recorded.
-use Rattle.std.specs.Prelude.{◌≡◌, ℕ, Bool, true, false, cond, List, []}
+use Rattle.std.specs.Prelude.{◌≡◌, ℕ, Bool, true, false, cond, ◌⊎◌, List, [], ◌∷◌, ◌++◌}
 use Rattle.weights.specs.Kinds.{Kind, Lawful}
 use Rattle.grammar.specs.Syntax.{Pattern}
 use Rattle.grammar.specs.Judged.{judged}
-use Rattle.semantics.specs.Terms.{Terms, Exact, has}
+use Rattle.semantics.specs.Terms.{Terms, Exact, In, has}
 use Rattle.semantics.specs.Rows.{Row}
 use Rattle.semantics.specs.Graphs.{Graph}
 use Rattle.semantics.specs.Meaning.{weight_in}
 use Rattle.semantics.specs.Webs.{Triple, graph_of, Universe}
 use Rattle.walks.specs.Plans.{Needed}
-use Rattle.walks.specs.Promises.{whole}
+use Rattle.walks.specs.Promises.{whole, Grows}
 
 -- what a Web tells at an IRI: the list that it finds there, that there is none, or by which code and place it cannot be read
 pub data Told (A : Type 0) : Type 0 where
@@ -79,3 +79,25 @@ RecordDecides A =
     → (U W V : List A) → Universe T (lists_of v) p U → Universe T (lists_of w) p W → Universe T (shelf_by T v recorded) p V
     → AllSettled T v recorded V p → AgreeOn T recorded v w
     → (m : Row A) → weight_in T (graph_of T (lists_of v) U) k p m ≡ weight_in T (graph_of T (lists_of w) W) k p m
+
+-- ---- while a walk goes on
+
+-- A shelf with more documents is a graph that has grown. One shelf has, for every IRI, the list that the other has, or nothing.
+abbrev pub ShelvesGrow : Type 0 → Type 0
+ShelvesGrow A =
+    (T : Terms A) → Exact T → (less more : A → List (Triple A)) → ((i : A) → (less i ≡ more i) ⊎ (less i ≡ [])) → (p : Pattern A ℕ) (V U : List A)
+    → Universe T less p V → Universe T more p U → Grows T (graph_of T less V) (graph_of T more U)
+
+-- The course of one walk: the IRIs that it has looked up, the latest first. Each is needed over the shelf as it then is. The record may hold earlier ones, of
+-- other walks. Which of the needed IRIs is looked up next is left open here.
+pub data Course {A : Type 0} (T : Terms A) (tells : A → Told A) (p : Pattern A ℕ) (earlier : List A) : List A → Type 0 where
+  begins : Course T tells p earlier []
+  looks : {looked V : List A} {i : A} → Course T tells p earlier looked → Universe T (shelf_by T tells (looked ++ earlier)) p V
+      → Needed T (shelf_graph T tells (looked ++ earlier) V) (whole p) i → Course T tells p earlier (i ∷ looked)
+
+-- Every IRI that a walk has looked up is still needed at its end.
+abbrev pub LookedUpStaysNeeded : Type 0 → Type 0
+LookedUpStaysNeeded A =
+    (T : Terms A) → Exact T → (tells : A → Told A) (p : Pattern A ℕ) (earlier looked : List A) → Course T tells p earlier looked
+    → (V : List A) → Universe T (shelf_by T tells (looked ++ earlier)) p V
+    → (i : A) → In i looked → Needed T (shelf_graph T tells (looked ++ earlier) V) (whole p) i

@@ -1,5 +1,5 @@
 ghost use Rattle.walks.specs.Translated.{NamesAreFree};
-ghost use Rattle.walks.specs.Shelves.{SameShelf, EveryShelfHasItsUniverse, RecordSuffices, RecordDecides};
+ghost use Rattle.walks.specs.Shelves.{SameShelf, EveryShelfHasItsUniverse, RecordSuffices, RecordDecides, ShelvesGrow, LookedUpStaysNeeded};
 ghost use Rattle.walks.specs.Promises.{WalkIsComplete, NothingElseMatters, WalksOnlyGrow, NeedsAreMet, NeedsAreListed};
 
 // What is needed suffices: over the documents that a walk needs, a bounded question has the solutions of the whole Web.
@@ -38,4 +38,10 @@ pub fn record_makes_the_shelf<A>()
 pub fn record_suffices<A>()
     ensures suffices { RecordSuffices A }
     ensures decides { RecordDecides A }
+{}
+
+// A shelf grows as a graph, so that what a walk has looked up is still needed at its end.
+pub fn lookups_stay_needed<A>()
+    ensures grows { ShelvesGrow A }
+    ensures needed { LookedUpStaysNeeded A }
 {}
