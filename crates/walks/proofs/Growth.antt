@@ -119,6 +119,7 @@ module _ {A : Type 0} {T : Terms A} (x : Exact T) (G H : Graph A) (cG : Closed T
   pub kept_by_growth : (p : Pattern A ℕ) → KeptByGrowth T G H p
   kept_by_growth p = record {
     rows = possible_more p;
+    reached = λ q. reached_more;
     needs = λ i n. record { asking = n.asking; reached = reached_more n.reached; reads = n.reads; iri = n.iri };
     crowds = λ n. record { asking = n.asking; reached = reached_more n.reached; crowded = crowded_more n.crowded };
   }

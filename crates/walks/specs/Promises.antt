@@ -8,7 +8,7 @@ use Rattle.semantics.specs.Rows.{Row, blank}
 use Rattle.semantics.specs.Graphs.{Graph, Closed}
 use Rattle.semantics.specs.Meaning.{weight_in, possible}
 use Rattle.semantics.specs.Webs.{Triple, graph_of, Universe}
-use Rattle.walks.specs.Plans.{Asking, part, Needed}
+use Rattle.walks.specs.Plans.{Asking, part, Reached, Needed}
 use Rattle.walks.specs.Crowds.{TooMany}
 use Rattle.walks.specs.Needs.{needs}
 
@@ -32,9 +32,11 @@ pub record Grows {A : Type 0} (T : Terms A) (G H : Graph A) : Type 0 where
   pub contexts : (a : A) (t : A × A) → In t (G.context a) → In t (H.context a)
   pub terms : (a : A) → has T a G.universe ≡ true → has T a H.universe ≡ true
 
--- With more documents a question has the possible solutions that it had, needs what it needed, and has too many where it had too many.
+-- With more documents a question has the possible solutions that it had, its plan reaches the sub-questions that it reached, it needs what it needed, and
+-- has too many where it had too many.
 pub record KeptByGrowth {A : Type 0} (T : Terms A) (G H : Graph A) (p : Pattern A ℕ) : Type 0 where
   pub rows : (a : Row A) → In a (possible T G p) → In a (possible T H p)
+  pub reached : (q : Asking A) → Reached T G (whole p) q → Reached T H (whole p) q
   pub needs : (i : A) → Needed T G (whole p) i → Needed T H (whole p) i
   pub crowds : TooMany T G (whole p) → TooMany T H (whole p)
 
