@@ -27,7 +27,7 @@ use Rattle.walks.specs.Promises.{whole, KeptByGrowth, NothingElseMatters}
 use Rattle.walks.proofs.Gives.{Known, Gives, gives_merge, gives_nothing, possible_gives}
 use Rattle.walks.proofs.Growth.{one_in, merges_in, kept_by_growth}
 use Rattle.walks.proofs.Paths.{Agreed, walk_path}
-use Rattle.walks.proofs.Complete.{end_allowed, end_known, shelf_less, question_terms, shelf_grows}
+use Rattle.walks.proofs.Complete.{end_allowed, end_known, shelf_less, question_terms, shelf_grows, walk_is_complete}
 
 -- G has all that H has, and what the plan over H reads is there as it is in G
 module _ {A : Type 0} {T : Terms A} (x : Exact T) (G H : Graph A) (cG : Closed T G) (cH : Closed T H)
@@ -224,6 +224,7 @@ module _ {A : Type 0} {T : Terms A} (x : Exact T) (G H : Graph A) (cG : Closed T
 pub nothing_else_matters : {A : Type 0} → NothingElseMatters A
 nothing_else_matters {A} T x less more part_of p o V U v u h = record {
   rows = λ a. (rows_less x G H cG cH bigger p 0 [] start a refl, kept.rows a);
+  weights = λ k l. walk_is_complete T x k l more less part_of p o U V u v h;
   needs = λ i. ((λ n. record { asking = n.asking; reached = (reached_less x G H cG cH bigger start n.reached).0; reads = n.reads; iri = n.iri }), kept.needs i);
   crowds = ((λ n. let far = reached_less x G H cG cH bigger start n.reached in record { asking = n.asking; reached = far.0; crowded = crowded_less x G H cG cH bigger far.1 n.crowded }), kept.crowds);
 }

@@ -55,14 +55,15 @@ NeedsAreListed A = (T : Terms A) → Exact T → (G : Graph A) → Closed T G �
 
 -- ---- nothing else matters
 
--- the question has the same possible solutions and needs, and too many of them over both or over neither
+-- the question has the same possible solutions, weights and needs, and too many over both or over neither
 pub record Unmoved {A : Type 0} (T : Terms A) (G H : Graph A) (p : Pattern A ℕ) : Type 0 where
   pub rows : (a : Row A) → In a (possible T G p) ↔ In a (possible T H p)
+  pub weights : (k : Kind) → Lawful k → (m : Row A) → weight_in T G k p m ≡ weight_in T H k p m
   pub needs : (i : A) → Needed T G (whole p) i ↔ Needed T H (whole p) i
   pub crowds : TooMany T G (whole p) ↔ TooMany T H (whole p)
 
 -- Documents that are not needed change nothing. One shelf has, for every IRI, the list that another has, or nothing; where it is needed over the first, they
--- have the same. (That the solutions have the same weights over both is the completeness of the walk, with the larger shelf for a Web.)
+-- have the same. (That the weights are the same is the completeness of the walk, with the larger shelf for a Web.)
 abbrev pub NothingElseMatters : Type 0 → Type 0
 NothingElseMatters A =
     (T : Terms A) → Exact T → (less more : A → List (Triple A)) → ((i : A) → (less i ≡ more i) ⊎ (less i ≡ []))
