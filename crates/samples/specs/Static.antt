@@ -1,15 +1,18 @@
 -- The plan goes by what judging has fixed, not by the terms that happen to be there.
 -- Part a:1 has the substitute x:1, which has a value y:1; another list, b:1, names the value y:2. The question asks for a substitute, its value if it has
 -- one, and what the value that b:1 names leads to.
-use Rattle.std.specs.Prelude.{◌≡◌, true, cond, List, [], ◌∷◌, codes}
+use Rattle.std.specs.Prelude.{◌≡◌, ℕ, ◌+◌, ◌*◌, true, cond, List, [], ◌∷◌, ◌++◌, Some, None, codes}
 use Rattle.terms.specs.Terms.{Term}
-use Rattle.grammar.specs.Syntax.{link, inverse, sequence, constant, variable, line, and, opt}
+use Rattle.grammar.specs.Syntax.{link, inverse, sequence, constant, variable, Pattern, empty, line, and, union, opt}
 use Rattle.grammar.specs.Grammar.{iri_term}
 use Rattle.grammar.specs.Judged.{judged}
+use Rattle.semantics.specs.Rows.{Row, blank, merge}
 use Rattle.semantics.specs.Graphs.{Graph}
-use Rattle.semantics.specs.Terms.{In}
+use Rattle.semantics.specs.Terms.{In, gather}
+use Rattle.semantics.specs.Meaning.{possible}
 use Rattle.semantics.specs.Webs.{Triple, graph_of, Universe, by_bytes, Found}
-use Rattle.walks.specs.Needs.{needs}
+use Rattle.walks.specs.Plans.{left_first, part, Needed}
+use Rattle.walks.specs.Needs.{suited, needs}
 use Rattle.walks.specs.Promises.{whole}
 use Rattle.samples.specs.File.{triple, Asked}
 
@@ -65,10 +68,35 @@ question =
 abbrev pub ItCanBeWalked : Type 0
 ItCanBeWalked = judged question 0 ≡ true
 
--- ?y is not sure, so the group's second line goes first, also where the OPTIONAL part has given ?y the term y:1. That term does not fit what b:1 names, and
--- its document is not needed. A plan that looked at the terms at hand would read it.
+-- ?y is not sure, so the group's second line goes first, also where the OPTIONAL part has given ?y the term y:1. That term does not fit what b:1 names.
 abbrev pub JudgingOrdersThePlan : Type 0
 JudgingOrdersThePlan = needs by_bytes graph (whole question) ≡ a1 ∷ x1 ∷ b1 ∷ b1 ∷ y2 ∷ []
+
+-- so the document of y:1 is not needed
+abbrev pub NotWhatIsAtHand : Type 0
+NotWhatIsAtHand = Needed by_bytes graph (whole question) y1 → ⊥
+
+-- ---- the plan that this is not: by the terms that happen to be fixed
+
+-- the variables that a row gives a term
+abbrev pub at_hand : Row Term → ℕ
+at_hand [] = 0
+at_hand (None ∷ r) = 2 * at_hand r
+at_hand (Some a ∷ r) = 1 + 2 * at_hand r
+
+abbrev pub needs_by_hand : Pattern Term ℕ → Row Term → List Term
+needs_by_hand empty r = []
+needs_by_hand (line e p f) r = needs by_bytes graph (part (at_hand r) (line e p f) r)
+needs_by_hand (and p q) r =
+    cond (left_first (at_hand r) p q)
+    (needs_by_hand p r ++ gather (λ a. needs_by_hand q (merge r a)) (suited by_bytes graph r (possible by_bytes graph p)))
+    (needs_by_hand q r ++ gather (λ a. needs_by_hand p (merge r a)) (suited by_bytes graph r (possible by_bytes graph q)))
+needs_by_hand (union p q) r = needs_by_hand p r ++ needs_by_hand q r
+needs_by_hand (opt p q) r = needs_by_hand p r ++ gather (λ a. needs_by_hand q a) (suited by_bytes graph r (possible by_bytes graph p))
+
+-- With y:1 at hand it would begin with the group's first line, and read y:1.
+abbrev pub TermsAtHandWouldNeedMore : Type 0
+TermsAtHandWouldNeedMore = needs_by_hand question blank ≡ a1 ∷ x1 ∷ y1 ∷ b1 ∷ b1 ∷ y2 ∷ []
 
 -- ---- left side first
 
