@@ -8,7 +8,7 @@ use Rattle.semantics.proofs.Lists.{in_left, in_right, in_either}
 use Rattle.walks.specs.Crowds.{Crowd}
 use Rattle.tables.specs.Held.{nth}
 use Rattle.solving.specs.Solved.{then, or_else, plain, filled, closed}
-use Rattle.answering.proofs.Apart.{crowd_more}
+use Rattle.walks.proofs.Crowding.{crowd_more}
 use Rattle.answering.specs.Promises.{rows_in}
 use Rattle.answering.proofs.Tables.{Tidy, Neat, rows_append}
 use Rattle.answering.proofs.Holding.{Table, Holds, Plain, Grown, filled_grown}

@@ -7,7 +7,7 @@ use Rattle.semantics.specs.Bags.{Bag}
 use Rattle.semantics.proofs.Integrals.{integral}
 use Rattle.walks.specs.Crowds.{Crowd}
 use Rattle.solving.specs.Solved.{then, poured, each_of}
-use Rattle.answering.proofs.Apart.{crowd_more}
+use Rattle.walks.proofs.Crowding.{crowd_more}
 use Rattle.answering.specs.Promises.{rows_in}
 use Rattle.answering.proofs.Tables.{Tidy, Neat}
 use Rattle.semantics.proofs.Totals.{zero_sum}

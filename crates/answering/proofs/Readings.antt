@@ -11,7 +11,7 @@ use Rattle.semantics.proofs.Lists.{any_in, any_from}
 use Rattle.walks.specs.Plans.{allows, Asking, path, Leads, Reads, for_link, for_negated}
 use Rattle.walks.specs.Crowds.{Crowd, Crowded, pairs, TooMany}
 use Rattle.solving.specs.Solved.{then, left_of, right_of, spread, read_out, walked}
-use Rattle.answering.proofs.Apart.{crowd_more}
+use Rattle.walks.proofs.Crowding.{crowd_more}
 use Rattle.answering.proofs.Holding.{table_empty, holds_calm, Grown, ReadsRow, spread_grown}
 use Rattle.answering.proofs.Folds.{Solves}
 use Rattle.answering.proofs.PathSums.{both, PathRow, path_sum}

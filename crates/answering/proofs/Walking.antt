@@ -15,7 +15,7 @@ use Rattle.walks.specs.Plans.{left_step_first, from_left, allows, Asking, path, 
 use Rattle.walks.specs.Crowds.{Crowd, pairs, TooMany}
 use Rattle.walks.proofs.Gives.{Known}
 use Rattle.solving.specs.Solved.{then, pair_row, left_of, right_of, turned, onward, backward, walked, each_of, closed, itself, allowed}
-use Rattle.answering.proofs.Apart.{crowd_more}
+use Rattle.walks.proofs.Crowding.{crowd_more}
 use Rattle.answering.proofs.Tables.{Tidy}
 use Rattle.answering.proofs.Holding.{Holds, holds_calm}
 use Rattle.answering.proofs.Folds.{solves_same, solves_made, Made, then_each, then_pour}

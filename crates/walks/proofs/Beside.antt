@@ -22,8 +22,9 @@ use Rattle.semantics.proofs.Universes.{web_closed}
 use Rattle.semantics.proofs.Possible.{in_one, in_merges}
 use Rattle.semantics.proofs.RowLaws.{compatible_order, compatible_first, compatible_second, compatible_grouping, merge_order}
 use Rattle.walks.specs.Plans.{left_first, from_left, fixed_to, allows, Asking, path, part, Leads, to_inverse, to_left_choice, to_right_choice, to_left_step, from_left_step, to_right_step, from_right_step, star_onward as onwards, star_backward as backwards, to_path, to_left_side, from_left_side, to_right_side, from_right_side, to_left_union, to_right_union, to_outside, to_option, Reached, here, there}
-use Rattle.walks.specs.Crowds.{Crowd, Crowded, rows, pairs, onward, backward}
+use Rattle.walks.specs.Crowds.{Crowded, rows, pairs, onward, backward}
 use Rattle.walks.specs.Promises.{whole, KeptByGrowth, NothingElseMatters}
+use Rattle.walks.proofs.Crowding.{crowd_more}
 use Rattle.walks.proofs.Gives.{Known, Gives, gives_merge, gives_nothing, possible_gives}
 use Rattle.walks.proofs.Growth.{one_in, merges_in, kept_by_growth}
 use Rattle.walks.proofs.Paths.{Agreed, walk_path}
@@ -201,9 +202,6 @@ module _ {A : Type 0} {T : Terms A} (x : Exact T) (G H : Graph A) (cG : Closed T
 
   -- ---- crowds
 
-  crowd_less : {B : Type 0} (P Q : B → Type 0) → ((b : B) → P b → Q b) → Crowd P → Crowd Q
-  crowd_less P Q h c = record { members = c.members; apart = c.apart; many = c.many; each = λ b i. h b (c.each b i) }
-
   onward_stands : {l r : Bool} {p : Path A} {o u : Option A} → Stands (path l r (star p) o u) → from_left l p ≡ true → Stands (path l false (star p) o None)
   onward_stands {l} {p = p} s e = (or_left (l && walkable p true false) _ e, s.1, refl, onward_agreed e s.3)
 
@@ -211,13 +209,13 @@ module _ {A : Type 0} {T : Terms A} (x : Exact T) (G H : Graph A) (cG : Closed T
   backward_stands {l} {p = p} s e = (or_second (l && walkable p true false) _ s.0 e, refl, s.2, backward_agreed e s.3)
 
   crowded_less : {q : Asking A} → Stands q → Crowded T G q → Crowded T H q
-  crowded_less s (rows {m} {p} {r} c) = rows (crowd_less _ _ (λ a h. (rows_less p m r s a h.1 h.0, h.1)) c)
+  crowded_less s (rows {m} {p} {r} c) = rows (crowd_more _ _ (λ a h. (rows_less p m r s a h.1 h.0, h.1)) c)
   crowded_less s (pairs {l} {r} {p} {x = o} {y = u} c) =
-      pairs (crowd_less _ _ (λ b h. (h.0, h.1, sym (same_pair p l r o u s b.0 b.1 h.0 h.1) ∙ h.2)) c)
+      pairs (crowd_more _ _ (λ b h. (h.0, h.1, sym (same_pair p l r o u s b.0 b.1 h.0 h.1) ∙ h.2)) c)
   crowded_less s (onward {l} {r} {p} {x = o} {y = u} e a f c) =
-      onward e a f (crowd_less _ _ (λ m h. sym (same_pair (star p) l false o None (onward_stands s e) a m f refl) ∙ h) c)
+      onward e a f (crowd_more _ _ (λ m h. sym (same_pair (star p) l false o None (onward_stands s e) a m f refl) ∙ h) c)
   crowded_less s (backward {l} {r} {p} {x = o} {y = u} e b f c) =
-      backward e b f (crowd_less _ _ (λ m h. sym (same_pair (star p) false r None u (backward_stands s e) m b refl f) ∙ h) c)
+      backward e b f (crowd_more _ _ (λ m h. sym (same_pair (star p) false r None u (backward_stands s e) m b refl f) ∙ h) c)
 
 -- ---- over shelves
 

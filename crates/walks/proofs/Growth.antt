@@ -13,8 +13,9 @@ use Rattle.semantics.proofs.Possible.{in_one, in_merges}
 use Rattle.semantics.proofs.RowLaws.{given_merge}
 use Rattle.semantics.proofs.Universes.{web_closed}
 use Rattle.walks.specs.Plans.{fixed_to, Asking, path, part, Leads, to_inverse, to_left_choice, to_right_choice, to_left_step, from_left_step, to_right_step, from_right_step, star_onward as onwards, star_backward as backwards, to_path, to_left_side, from_left_side, to_right_side, from_right_side, to_left_union, to_right_union, to_outside, to_option, Reached, here, there, Reads, for_link, for_negated, Needed}
-use Rattle.walks.specs.Crowds.{Crowd, Crowded, rows, pairs, onward, backward}
+use Rattle.walks.specs.Crowds.{Crowded, rows, pairs, onward, backward}
 use Rattle.walks.specs.Promises.{whole, Grows, KeptByGrowth, WalksOnlyGrow, NeedsAreMet}
+use Rattle.walks.proofs.Crowding.{crowd_more}
 use Rattle.walks.proofs.Gives.{Known, known_less, known_merge, possible_gives}
 
 pub one_in : {C : Type 0} (t : Bool) (d c : C) → t ≡ true → c ≡ d → In c (cond t (d ∷ []) [])
@@ -106,9 +107,6 @@ module _ {A : Type 0} {T : Terms A} (x : Exact T) (G H : Graph A) (cG : Closed T
   reached_more : {q r : Asking A} → Reached T G q r → Reached T H q r
   reached_more here = here
   reached_more (there s r) = there (leads_more s) (reached_more r)
-
-  crowd_more : {B : Type 0} (P Q : B → Type 0) → ((b : B) → P b → Q b) → Crowd P → Crowd Q
-  crowd_more P Q h c = record { members = c.members; apart = c.apart; many = c.many; each = λ b i. h b (c.each b i) }
 
   crowded_more : {q : Asking A} → Crowded T G q → Crowded T H q
   crowded_more (rows {p = p} c) = rows (crowd_more _ _ (λ a h. (possible_more p a h.0, h.1)) c)

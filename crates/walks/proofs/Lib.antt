@@ -1,5 +1,6 @@
 pub mod Beside
 pub mod Complete
+pub mod Crowding
 pub mod Gives
 pub mod Growth
 pub mod Listed
