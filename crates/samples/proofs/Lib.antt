@@ -6,3 +6,4 @@ pub mod Orders
 pub mod Paged
 pub mod Pages
 pub mod Reading
+pub mod Walks

@@ -7,7 +7,7 @@ use Rattle.semantics.proofs.Bytes.{by_bytes_exact}
 use Rattle.walks.specs.Promises.{whole}
 use Rattle.samples.specs.File.{triple}
 use Rattle.samples.specs.Static.{a1, x1, b1, y1, y2, z1, alt, val, names, leads_to, graph, question, NotWhatIsAtHand}
-use Rattle.samples.proofs.Paged.{pages_closed, needed_as_listed}
+use Rattle.samples.proofs.Paged.{pages_closed, needed_just}
 
 closed : Closed by_bytes graph
 closed = pages_closed _
@@ -17,4 +17,4 @@ closed = pages_closed _
 pub not_what_is_at_hand : NotWhatIsAtHand
 not_what_is_at_hand n =
     let l = a1 ∷ x1 ∷ b1 ∷ b1 ∷ y2 ∷ [] in
-    clash (in_has by_bytes_exact y1 l ((needed_as_listed closed (whole question) l refl y1).0 n)) refl
+    clash (in_has by_bytes_exact y1 l ((needed_just closed (whole question) l refl refl y1).0 n)) refl

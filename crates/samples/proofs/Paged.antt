@@ -1,18 +1,18 @@
 -- A Web of a few pages: its graph, and what is needed over it.
-use Rattle.std.proofs.Common.{◌≡◌, Bool, true, false, cond, ◌↔◌, List, [], ◌∷◌, sym, refl, ap, subst}
+use Rattle.std.proofs.Common.{◌≡◌, Bool, true, false, cond, ◌↔◌, List, [], ◌∷◌, refl, ap}
 use Rattle.std.proofs.lemmas.Bool.{and_parts}
 use Rattle.std.specs.List.{list_all}
 use Rattle.terms.specs.Terms.{Term}
 use Rattle.semantics.specs.Terms.{In, has, Distinct}
 use Rattle.semantics.specs.Graphs.{Graph, Closed}
 use Rattle.semantics.specs.Webs.{Triple, terms_listed, about, graph_of, by_bytes}
-use Rattle.semantics.proofs.Lists.{clash, in_has}
+use Rattle.semantics.proofs.Lists.{clash, has_in, in_has}
 use Rattle.semantics.proofs.Bytes.{by_bytes_exact}
 use Rattle.semantics.proofs.Universes.{about_in}
 use Rattle.walks.specs.Plans.{Asking, Needed}
 use Rattle.walks.specs.Needs.{needs}
 use Rattle.walks.proofs.Listed.{needs_are_listed}
-use Rattle.samples.proofs.Lists.{within, page_within}
+use Rattle.samples.proofs.Lists.{each_passes, within, page_within}
 
 abbrev pub Pages : Type 0
 Pages = List (Term × List (Triple Term))
@@ -45,8 +45,10 @@ pages_closed U ps d h = record {
         (paged_has U ps h a a (in_has by_bytes_exact a l j.0), paged_has U ps h a t.1 (in_has by_bytes_exact t.1 l j.1))
     ends a t false i = elim i [ ]
 
--- what is needed is what the computed list has
-pub needed_as_listed : {G : Graph Term} → Closed by_bytes G → (q : Asking Term) (l : List Term) → needs by_bytes G q ≡ l → (i : Term) → Needed by_bytes G q i ↔ In i l
-needed_as_listed {G} c q l e i =
-    let h = needs_are_listed by_bytes by_bytes_exact G c q i in
-    (λ n. subst (λ l. In i l) e (h.0 n), λ j. h.1 (subst (λ l. In i l) (sym e) j))
+-- what is needed is what the computed list has, however often
+pub needed_just : {G : Graph Term} → Closed by_bytes G → (q : Asking Term) (l : List Term) → within (needs by_bytes G q) l ≡ true → within l (needs by_bytes G q) ≡ true
+    → (i : Term) → Needed by_bytes G q i ↔ In i l
+needed_just {G} c q l h g i =
+    let n = needs by_bytes G q in
+    let e = needs_are_listed by_bytes by_bytes_exact G c q i in
+    (λ d. has_in by_bytes_exact i l (each_passes (λ a. has by_bytes a l) n h i (e.0 d)), λ j. e.1 (has_in by_bytes_exact i n (each_passes (λ a. has by_bytes a n) l g i j)))

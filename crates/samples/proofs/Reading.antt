@@ -37,7 +37,7 @@ clear s (x ∷ v) e = let p = and_parts (passes (limit s x)) (is_clear (after s 
 at_most : (n m : ℕ) → leb n m ≡ true → n ≤ m
 at_most n m e = grind arith
 
-asks : (text : List ℕ) (t : Tree is_question) (p : Asked) → leb (length text) 2048 ≡ true → words (tokens text) ≡ spell t []
+pub asks : (text : List ℕ) (t : Tree is_question) (p : Asked) → leb (length text) 2048 ≡ true → words (tokens text) ≡ spell t []
     → is_clear nothing (words (tokens text)) ≡ true → leb (nodes (means t)) 64 ≡ true
     → numbered (gather nothing (words (tokens text))).names (means t) ≡ p → Asks text p
 asks text t p short derives free small same = (
@@ -55,13 +55,13 @@ asks text t p short derives free small same = (
 
 -- ---- trees
 
-abbrev step : Tree is_base → Tree is_path
+abbrev pub step : Tree is_base → Tree is_path
 step b = path (chain (forward b once) no_steps) no_alternatives
 
-abbrev row : Tree is_end → Tree is_path → Tree is_end → Tree is_item
+abbrev pub row : Tree is_end → Tree is_path → Tree is_end → Tree is_item
 row a p b = a_line (ends a p b)
 
-abbrev question : Tree is_items → Tree is_question
+abbrev pub question : Tree is_items → Tree is_question
 question is = whole (braces is)
 
 abbrev alone : Tree is_item → Tree is_question

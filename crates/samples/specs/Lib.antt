@@ -4,5 +4,6 @@ pub mod Shelf
 pub mod Shown
 pub mod Static
 pub mod Texts
+pub mod Walked
 pub mod Weighed
 pub mod Written

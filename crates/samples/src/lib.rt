@@ -4,9 +4,11 @@
 mod feeders;
 mod plans;
 mod shown;
+mod walked;
 mod weighed;
 
 pub use feeders::feeders_show_it;
 pub use plans::plans_are_static;
 pub use shown::pages_show_it;
+pub use walked::walks_show_it;
 pub use weighed::weights_show_it;
