@@ -1,6 +1,7 @@
 pub mod Books
 pub mod Files
 pub mod Lists
+pub mod Counted
 pub mod Ordered
 pub mod Orders
 pub mod Paged

@@ -1,5 +1,6 @@
 pub mod Feeders
 pub mod File
+pub mod Many
 pub mod Shelf
 pub mod Shown
 pub mod Static

@@ -2,12 +2,14 @@
 #![tactic(auto)]
 
 mod feeders;
+mod many;
 mod plans;
 mod shown;
 mod walked;
 mod weighed;
 
 pub use feeders::feeders_show_it;
+pub use many::many_are_counted;
 pub use plans::plans_are_static;
 pub use shown::pages_show_it;
 pub use walked::walks_show_it;

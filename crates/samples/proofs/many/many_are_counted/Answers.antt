@@ -1,0 +1,5 @@
+use Rattle.samples.proofs.Counted.{objects_are_counted, closure_is_counted}
+use Rattle.samples.proofs.many.many_are_counted.Goals as goal
+
+pub returns : goal.returns
+returns c = record { objects = objects_are_counted; closure = closure_is_counted }

@@ -1,0 +1,38 @@
+-- When there are too many: one document that names n objects, for any n. The terms are numbers, and the document is that of 0.
+use Rattle.std.specs.Prelude.{ℕ, zero, suc, ◌<◌, cond, ◌↔◌, true, List, [], ◌∷◌, ◌==◌}
+use Rattle.grammar.specs.Syntax.{link, star, constant, variable, Pattern, line}
+use Rattle.semantics.specs.Terms.{Terms}
+use Rattle.semantics.specs.Graphs.{Graph}
+use Rattle.walks.specs.Promises.{whole}
+use Rattle.walks.specs.Crowds.{TooMany}
+
+abbrev pub numbers : Terms ℕ
+numbers = record { same = λ a b. a == b; is_iri = λ a. true }
+
+-- 0 leads to each of 1 to n, by the predicate 0
+abbrev pub facts : ℕ → List (ℕ × ℕ)
+facts zero = []
+facts (suc n) = (0, suc n) ∷ facts n
+
+abbrev pub up_to : ℕ → List ℕ
+up_to zero = 0 ∷ []
+up_to (suc n) = suc n ∷ up_to n
+
+abbrev pub naming : ℕ → Graph ℕ
+naming n = record { context = λ a. cond (a == 0) (facts n) []; universe = up_to n }
+
+-- all that 0 names
+abbrev pub all_named : Pattern ℕ ℕ
+all_named = line (constant 0) (link 0) (variable 0)
+
+-- 257 objects are too many, and 256 are not
+abbrev pub ObjectsAreCounted : Type 0
+ObjectsAreCounted = (n : ℕ) → TooMany numbers (naming n) (whole all_named) ↔ (256 < n)
+
+-- whether a chain leads from 0 to 1
+abbrev pub reaches_one : Pattern ℕ ℕ
+reaches_one = line (constant 0) (star (link 0)) (constant 1)
+
+-- Only one pair of terms fits both ends. But the star's own closure is counted, 0 itself included: with 256 objects it has 257 terms.
+abbrev pub ClosureIsCounted : Type 0
+ClosureIsCounted = (n : ℕ) → TooMany numbers (naming n) (whole reaches_one) ↔ (255 < n)
