@@ -3,6 +3,7 @@ pub mod Complete
 pub mod Crowding
 pub mod Gives
 pub mod Growth
+pub mod Keeping
 pub mod Listed
 pub mod Paths
 pub mod Recorded

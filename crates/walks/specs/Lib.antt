@@ -1,4 +1,5 @@
 pub mod Crowds
+pub mod Kept
 pub mod Needs
 pub mod Plans
 pub mod Promises

@@ -1,3 +1,4 @@
+ghost use Rattle.walks.specs.Kept.{PossibleIsKept};
 ghost use Rattle.walks.specs.Translated.{NamesAreFree};
 ghost use Rattle.walks.specs.Shelves.{SameShelf, EveryShelfHasItsUniverse, RecordSuffices, RecordDecides, ShelvesGrow, LookedUpStaysNeeded};
 ghost use Rattle.walks.specs.Promises.{WalkIsComplete, NothingElseMatters, WalksOnlyGrow, NeedsAreMet, NeedsAreListed};
@@ -44,4 +45,9 @@ pub fn record_suffices<A>()
 pub fn lookups_stay_needed<A>()
     ensures grows { ShelvesGrow A }
     ensures needed { LookedUpStaysNeeded A }
+{}
+
+// A possible solution is a solution where optional parts may be left out at will.
+pub fn possible_is_no_more<A>()
+    ensures { PossibleIsKept A }
 {}
