@@ -7,4 +7,5 @@ pub mod Orders
 pub mod Paged
 pub mod Pages
 pub mod Reading
+pub mod Turns
 pub mod Walks

@@ -1,6 +1,7 @@
 pub mod Feeders
 pub mod File
 pub mod Many
+pub mod Rounds
 pub mod Shelf
 pub mod Shown
 pub mod Static

@@ -1,8 +1,9 @@
 -- The shelf of a record.
-use Rattle.std.proofs.Common.{◌≡◌, Bool, true, false, cond, ◌⊎◌, List, [], ◌∷◌, ◌++◌, sym, refl, ap, ◌∙◌, subst, inl, inr}
+use Rattle.std.proofs.Common.{◌≡◌, ℕ, Bool, true, false, cond, ◌⊎◌, List, [], ◌∷◌, ◌++◌, sym, refl, ap, ◌∙◌, subst, inl, inr}
 use mathlib.Core.Path.{fun_ext}
 use Rattle.std.proofs.lemmas.Bool.{or_right}
-use Rattle.semantics.specs.Terms.{Terms, In, gather, has}
+use Rattle.grammar.specs.Syntax.{Pattern}
+use Rattle.semantics.specs.Terms.{Terms, Exact, In, gather, has}
 use Rattle.semantics.specs.Webs.{Triple, terms_in, terms_listed, Met, Universe}
 use Rattle.semantics.proofs.Lists.{by_test, in_left, in_right, in_either, in_gather, gather_in, has_in, in_has}
 use Rattle.semantics.proofs.Universes.{unique, unique_distinct, unique_has, web_closed}
@@ -40,48 +41,50 @@ record_decides T x k l v w recorded p o U W V u z s h agree m =
 
 -- ---- its universe
 
-pub every_shelf_has_its_universe : {A : Type 0} → EveryShelfHasItsUniverse A
-every_shelf_has_its_universe {A} T x tells recorded p = (
-  unique x listed,
-  record {
+module _ {A : Type 0} {T : Terms A} (x : Exact T) (tells : A → Told A) (recorded : List A) (p : Pattern A ℕ) where
+  abbrev shelf : A → List (Triple A)
+  shelf i = shelf_by T tells recorded i
+
+  abbrev page : A → List A
+  page i = cond (T.is_iri i) (terms_listed (shelf i)) []
+
+  abbrev listed : List A
+  listed = terms_in p ++ gather page recorded
+
+  -- the terms of the question and of the recorded lists
+  abbrev pub shelf_terms : List A
+  shelf_terms = unique x listed
+
+  on_page : (l : List A) (y : A) (b : Bool) → b ≡ true → In y l → In y (cond b l [])
+  on_page l y b e j = subst (λ b. In y (cond b l [])) (sym e) j
+
+  off_page : (l : List A) (y : A) (b : Bool) → In y (cond b l []) → (b ≡ true) × In y l
+  off_page l y true j = (refl, j)
+  off_page l y false j = elim j [ ]
+
+  in_it : (y : A) → Met T shelf p y → In y listed
+  in_it y (inl h) = in_left y (terms_in p) (gather page recorded) (has_in x y (terms_in p) h)
+  in_it y (inr h) = by_test (has T h.0 recorded)
+      (λ e. in_right y (terms_in p) (gather page recorded) (gather_in page recorded h.0 y (has_in x h.0 recorded e)
+      (on_page (terms_listed (shelf h.0)) y (T.is_iri h.0) h.1 (has_in x y (terms_listed (shelf h.0)) h.2))))
+      (λ e. elim (has_in x y [] (subst (λ b. has T y (terms_listed (cond b (triples (tells h.0)) [])) ≡ true) e h.2)) [ ])
+
+  out : (y : A) → In y (terms_in p) ⊎ In y (gather page recorded) → Met T shelf p y
+  out y (inl i) = inl (in_has x y (terms_in p) i)
+  out y (inr i) =
+      let r = in_gather page recorded y i in
+      let s = off_page (terms_listed (shelf r.0)) y (T.is_iri r.0) r.2 in
+      inr (r.0, s.0, in_has x y (terms_listed (shelf r.0)) s.1)
+
+  pub shelf_universe : Universe T (shelf_by T tells recorded) p shelf_terms
+  shelf_universe = record {
     distinct = unique_distinct x listed;
     all = λ y m. unique_has x y listed ∙ in_has x y listed (in_it y m);
-    none_else = λ y h. out y (in_either y (terms_in p) others (has_in x y listed (sym (unique_has x y listed) ∙ h)));
-  },
-)
-  where
-    shelf : A → List (Triple A)
-    shelf = shelf_by T tells recorded
+    none_else = λ y h. out y (in_either y (terms_in p) (gather page recorded) (has_in x y listed (sym (unique_has x y listed) ∙ h)));
+  }
 
-    page : A → List A
-    page i = cond (T.is_iri i) (terms_listed (shelf i)) []
-
-    others : List A
-    others = gather page recorded
-
-    listed : List A
-    listed = terms_in p ++ others
-
-    on_page : (i y : A) (b : Bool) → b ≡ true → In y (terms_listed (shelf i)) → In y (cond b (terms_listed (shelf i)) [])
-    on_page i y b e j = subst (λ b. In y (cond b (terms_listed (shelf i)) [])) (sym e) j
-
-    off_page : (y : A) (l : List A) (b : Bool) → In y (cond b l []) → (b ≡ true) × In y l
-    off_page y l true j = (refl, j)
-    off_page y l false j = elim j [ ]
-
-    in_it : (y : A) → Met T shelf p y → In y listed
-    in_it y (inl h) = in_left y (terms_in p) others (has_in x y (terms_in p) h)
-    in_it y (inr h) = by_test (has T h.0 recorded)
-        (λ e. in_right y (terms_in p) others (gather_in page recorded h.0 y (has_in x h.0 recorded e)
-        (on_page h.0 y (T.is_iri h.0) h.1 (has_in x y (terms_listed (shelf h.0)) h.2))))
-        (λ e. elim (has_in x y [] (subst (λ b. has T y (terms_listed (cond b (triples (tells h.0)) [])) ≡ true) e h.2)) [ ])
-
-    out : (y : A) → In y (terms_in p) ⊎ In y others → Met T shelf p y
-    out y (inl i) = inl (in_has x y (terms_in p) i)
-    out y (inr i) =
-        let r = in_gather page recorded y i in
-        let s = off_page y (terms_listed (shelf r.0)) (T.is_iri r.0) r.2 in
-        inr (r.0, s.0, in_has x y (terms_listed (shelf r.0)) s.1)
+pub every_shelf_has_its_universe : {A : Type 0} → EveryShelfHasItsUniverse A
+every_shelf_has_its_universe T x tells recorded p = (shelf_terms x tells recorded p, shelf_universe x tells recorded p)
 
 -- ---- while it grows
 
