@@ -1,5 +1,6 @@
 pub mod Feeders
 pub mod File
+pub mod Handed
 pub mod Many
 pub mod Rounds
 pub mod Shelf

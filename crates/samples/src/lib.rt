@@ -2,6 +2,7 @@
 #![tactic(auto)]
 
 mod feeders;
+mod handed;
 mod many;
 mod plans;
 mod rounds;
@@ -10,6 +11,7 @@ mod walked;
 mod weighed;
 
 pub use feeders::feeders_show_it;
+pub use handed::plans_hand_on;
 pub use many::many_are_counted;
 pub use plans::plans_are_static;
 pub use rounds::rounds_show_it;
