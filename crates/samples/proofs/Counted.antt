@@ -1,7 +1,7 @@
 -- One document that names n objects: how many pairs its questions have.
 use Rattle.std.proofs.Common.{◌≡◌, ℕ, zero, suc, ◌≤◌, ◌<◌, true, false, cond, ◌&&◌, eqb, List, [], ◌∷◌, length, Some, None, sym, refl, ap, ◌∙◌, subst, ap₂, ◌⊎◌, inl, inr, arith}
 use Rattle.std.proofs.lemmas.Bool.{and_parts}
-use Rattle.grammar.specs.Syntax.{link, star, constant, variable}
+use Rattle.grammar.specs.Syntax.{link, star, sequence, constant, variable}
 use Rattle.semantics.specs.Terms.{Exact, In, any}
 use Rattle.semantics.specs.Rows.{Row}
 use Rattle.semantics.specs.Graphs.{pair}
@@ -10,11 +10,11 @@ use Rattle.semantics.proofs.Lists.{clash, by_test, any_in, any_from, in_gather, 
 use Rattle.semantics.proofs.Bytes.{eqb_tells, eqb_told}
 use Rattle.semantics.proofs.Links.{star_onward, star_here, star_once}
 use Rattle.semantics.proofs.Possible.{in_one}
-use Rattle.walks.specs.Plans.{Asking, path, to_path, star_onward as onwards, star_backward as backwards, Reached, here, there}
+use Rattle.walks.specs.Plans.{Asking, path, to_path, to_left_step, from_left_step, to_right_step, from_right_step, star_onward as onwards, star_backward as backwards, Reached, here, there}
 use Rattle.walks.specs.Crowds.{Apart, Crowd, Crowded, rows, pairs, onward, backward}
 use Rattle.walks.specs.Promises.{whole}
 use Rattle.walks.proofs.Crowding.{apart_length}
-use Rattle.samples.specs.Many.{numbers, facts, up_to, naming, all_named, reaches_one, ObjectsAreCounted, ClosureIsCounted}
+use Rattle.samples.specs.Many.{numbers, facts, up_to, naming, all_named, reaches_one, leads_nowhere, ObjectsAreCounted, ClosureIsCounted, MiddleTermsAreCounted}
 
 exact : Exact numbers
 exact = record { tells = eqb_tells; told = eqb_told }
@@ -119,20 +119,62 @@ objects_fit n y here (rows c) = crowd_size _ (rows_from (facts n)) n (rows_lengt
 objects_fit n y (there to_path here) (pairs c) = crowd_size _ (facts n) n (facts_length n) (λ a h. pair_fact n a h.2) c
 objects_fit n y (there to_path (there l r)) c = elim l [ ]
 
-pub objects_are_counted : ObjectsAreCounted
-objects_are_counted n = (
-  λ t. objects_fit n t.asking t.reached t.crowded,
-  λ h. record {
-    asking = path true false (link 0) (Some 0) None;
-    reached = there to_path here;
-    crowded = pairs (record { members = facts n; apart = facts_apart n; many = subst (λ z. 256 < z) (sym (facts_length n)) h; each = each });
-  },
-)
+object_pairs : (n : ℕ) → 256 < n → Crowded numbers (naming n) (path true false (link 0) (Some 0) None)
+object_pairs n h = pairs (record { members = facts n; apart = facts_apart n; many = subst (λ z. 256 < z) (sym (facts_length n)) h; each = each })
   where
     each : (c : ℕ × ℕ) → In c (facts n) → (eqb 0 c.0 ≡ true) × (true ≡ true) × (pair numbers (naming n) (link 0) c.0 c.1 ≡ true)
     each c i =
         let e = facts_from_zero n c i in
         (ap (λ z. eqb 0 z.0) e, refl, subst (λ z. pair numbers (naming n) (link 0) z.0 z.1 ≡ true) (sym e) (fact_linked n c.1 (subst (λ z. In z (facts n)) e i)))
+
+pub objects_are_counted : ObjectsAreCounted
+objects_are_counted n = (
+  λ t. objects_fit n t.asking t.reached t.crowded,
+  λ h. record { asking = path true false (link 0) (Some 0) None; reached = there to_path here; crowded = object_pairs n h },
+)
+
+-- ---- middle terms
+
+no_fact : (n a b : ℕ) → pair numbers (naming n) (link 1) a b ≡ true → ⊥
+no_fact n a b h = by_test (eqb a 0)
+    (λ e. let r = any_in _ (facts n) (subst (λ t. leading (cond t (facts n) [])) e h) in
+    clash (and_parts (eqb 1 r.0.0) (eqb b r.0.1) r.2).0 (ap (λ z. eqb 1 z.0) (facts_from_zero n r.0 r.1)))
+    (λ e. clash (subst (λ t. leading (cond t (facts n) [])) e h) refl)
+  where
+    leading : List (ℕ × ℕ) → Type 0
+    leading c = any (λ t. eqb 1 t.0 && eqb b t.1) c ≡ true
+
+no_way : (n a b : ℕ) → pair numbers (naming n) (sequence (link 0) (link 1)) a b ≡ true → ⊥
+no_way n a b h =
+    let r = any_in _ (up_to n) h in
+    no_fact n r.0 b (and_parts (pair numbers (naming n) (link 0) a r.0) (pair numbers (naming n) (link 1) r.0 b) r.2).1
+
+nobody : {B : Type 0} (P : B → Type 0) → ((x : B) → P x → ⊥) → Crowd P → ⊥
+nobody P h c = let r = crowd_size P [] 0 refl h c in omega (arith, r)
+
+no_row : (n : ℕ) (a : Row ℕ) → In a (possible numbers (naming n) leads_nowhere) → ⊥
+no_row n a i =
+    let p = sequence (link 0) (link 1) in
+    let s = in_gather _ (up_to n) a i in
+    let t = in_gather _ (up_to n) a s.2 in
+    let c = in_one (stand numbers (constant 0) (variable 0) s.0 t.0 && pair numbers (naming n) p s.0 t.0) (Some t.0 ∷ []) a t.2 in
+    no_way n s.0 t.0 (and_parts (stand numbers (constant 0) (variable 0) s.0 t.0) (pair numbers (naming n) p s.0 t.0) c.0).1
+
+middles_fit : (n : ℕ) (y : Asking ℕ) → Reached numbers (naming n) (whole leads_nowhere) y → Crowded numbers (naming n) y → 256 < n
+middles_fit n y here (rows c) = absurd (nobody _ (λ a h. no_row n a h.0) c)
+middles_fit n y (there to_path here) (pairs c) = absurd (nobody _ (λ a h. no_way n a.0 a.1 h.2) c)
+middles_fit n y (there to_path (there (to_left_step e) here)) (pairs c) = crowd_size _ (facts n) n (facts_length n) (λ a h. pair_fact n a h.2) c
+middles_fit n y (there to_path (there (to_left_step e) (there l r))) c = elim l [ ]
+middles_fit n y (there to_path (there (from_left_step e a m f h) here)) (pairs c) = absurd (nobody _ (λ a h. no_fact n a.0 a.1 h.2) c)
+middles_fit n y (there to_path (there (from_left_step e a m f h) (there l r))) c = elim l [ ]
+middles_fit n y (there to_path (there (to_right_step e) r)) c = clash refl e
+middles_fit n y (there to_path (there (from_right_step e m b f h) r)) c = clash refl e
+
+pub middle_terms_are_counted : MiddleTermsAreCounted
+middle_terms_are_counted n = (
+  λ t. middles_fit n t.asking t.reached t.crowded,
+  λ h. record { asking = path true false (link 0) (Some 0) None; reached = there to_path (there (to_left_step refl) here); crowded = object_pairs n h },
+)
 
 -- ---- the star
 

@@ -1,6 +1,6 @@
 -- When there are too many: one document that names n objects, for any n. The terms are numbers, and the document is that of 0.
 use Rattle.std.specs.Prelude.{ℕ, zero, suc, ◌<◌, cond, ◌↔◌, true, List, [], ◌∷◌, ◌==◌}
-use Rattle.grammar.specs.Syntax.{link, star, constant, variable, Pattern, line}
+use Rattle.grammar.specs.Syntax.{link, star, sequence, constant, variable, Pattern, line}
 use Rattle.semantics.specs.Terms.{Terms}
 use Rattle.semantics.specs.Graphs.{Graph}
 use Rattle.walks.specs.Promises.{whole}
@@ -36,3 +36,11 @@ reaches_one = line (constant 0) (star (link 0)) (constant 1)
 -- Only one pair of terms fits both ends. But the star's own closure is counted, 0 itself included: with 256 objects it has 257 terms.
 abbrev pub ClosureIsCounted : Type 0
 ClosureIsCounted = (n : ℕ) → TooMany numbers (naming n) (whole reaches_one) ↔ (255 < n)
+
+-- 0, then an object, then whatever that leads to by 1, which is nothing
+abbrev pub leads_nowhere : Pattern ℕ ℕ
+leads_nowhere = line (constant 0) (sequence (link 0) (link 1)) (variable 0)
+
+-- Parts inside a path are counted too: there is no solution, but as many middle terms as objects.
+abbrev pub MiddleTermsAreCounted : Type 0
+MiddleTermsAreCounted = (n : ℕ) → TooMany numbers (naming n) (whole leads_nowhere) ↔ (256 < n)
