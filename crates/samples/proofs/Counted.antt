@@ -1,20 +1,21 @@
 -- One document that names n objects: how many pairs its questions have.
-use Rattle.std.proofs.Common.{◌≡◌, ℕ, zero, suc, ◌≤◌, ◌<◌, true, false, cond, ◌&&◌, eqb, List, [], ◌∷◌, length, Some, None, sym, refl, ap, ◌∙◌, subst, ap₂, ◌⊎◌, inl, inr, arith}
+use Rattle.std.proofs.Common.{◌≡◌, ℕ, zero, suc, ◌+◌, ◌≤◌, ◌<◌, true, false, cond, ◌&&◌, eqb, List, [], ◌∷◌, ◌++◌, length, Some, None, Bool, sym, refl, ap, ◌∙◌, subst, ap₂, ◌⊎◌, inl, inr, arith}
 use Rattle.std.proofs.lemmas.Bool.{and_parts}
-use Rattle.grammar.specs.Syntax.{link, star, sequence, constant, variable}
+use Rattle.grammar.specs.Syntax.{link, inverse, star, sequence, constant, variable, line, opt}
 use Rattle.semantics.specs.Terms.{Exact, In, any}
-use Rattle.semantics.specs.Rows.{Row}
+use Rattle.semantics.specs.Rows.{Row, given, compatible}
 use Rattle.semantics.specs.Graphs.{pair}
-use Rattle.semantics.specs.Meaning.{stand, possible}
-use Rattle.semantics.proofs.Lists.{clash, by_test, any_in, any_from, in_gather, in_has}
+use Rattle.semantics.specs.Meaning.{stand, merges, possible}
+use Rattle.semantics.proofs.Lists.{clash, by_test, any_in, any_from, in_left, in_right, in_gather, gather_in, in_has}
 use Rattle.semantics.proofs.Bytes.{eqb_tells, eqb_told}
 use Rattle.semantics.proofs.Links.{star_onward, star_here, star_once}
 use Rattle.semantics.proofs.Possible.{in_one}
-use Rattle.walks.specs.Plans.{Asking, path, to_path, to_left_step, from_left_step, to_right_step, from_right_step, star_onward as onwards, star_backward as backwards, Reached, here, there}
+use Rattle.walks.specs.Plans.{Asking, path, part, to_path, from_left_side, to_left_step, from_left_step, to_right_step, from_right_step, star_onward as onwards, star_backward as backwards, Reached, here, there}
 use Rattle.walks.specs.Crowds.{Apart, Crowd, Crowded, rows, pairs, onward, backward}
 use Rattle.walks.specs.Promises.{whole}
 use Rattle.walks.proofs.Crowding.{apart_length}
-use Rattle.samples.specs.Many.{numbers, facts, up_to, naming, all_named, reaches_one, leads_nowhere, ObjectsAreCounted, ClosureIsCounted, MiddleTermsAreCounted}
+use Rattle.walks.proofs.Growth.{one_in, merges_in}
+use Rattle.samples.specs.Many.{numbers, facts, up_to, naming, all_named, reaches_one, leads_nowhere, only_zero, ObjectsAreCounted, ClosureIsCounted, MiddleTermsAreCounted, OwnRowsAreCounted}
 
 exact : Exact numbers
 exact = record { tells = eqb_tells; told = eqb_told }
@@ -214,3 +215,81 @@ closure_is_counted n = (
     crowded = onward refl 0 refl (record { members = up_to n; apart = named_apart n; many = subst (λ z. 256 < z) (sym (named_length n)) (omega (arith, h)); each = named_star n });
   },
 )
+
+-- ---- own rows
+
+-- each object without ?x and with it
+two_rows : ℕ → List (Row ℕ)
+two_rows zero = []
+two_rows (suc n) = (None ∷ Some (suc n) ∷ []) ∷ (Some 0 ∷ Some (suc n) ∷ []) ∷ two_rows n
+
+object_of : Row ℕ → ℕ
+object_of r = elim (given r 1) [ None ↦ 0 | Some k ↦ k ]
+
+gives_x : Row ℕ → Bool
+gives_x r = elim (given r 0) [ None ↦ false | Some k ↦ true ]
+
+two_rows_bound : (n : ℕ) (r : Row ℕ) → In r (two_rows n) → object_of r ≤ n
+unfolding two_rows object_of
+two_rows_bound zero r i = elim i [ ]
+two_rows_bound (suc n) r (inl e) = let f = ap object_of e in omega (arith, f)
+two_rows_bound (suc n) r (inr (inl e)) = let f = ap object_of e in omega (arith, f)
+two_rows_bound (suc n) r (inr (inr i)) = let h = two_rows_bound n r i in omega (arith, h)
+
+two_rows_apart : (n : ℕ) → Apart (two_rows n)
+unfolding two_rows object_of gives_x
+two_rows_apart zero = tt
+two_rows_apart (suc n) = (
+  λ i. elim i [
+    | inl e ↦ clash (ap gives_x e) refl
+    | inr j ↦ (let h = two_rows_bound n (None ∷ Some (suc n) ∷ []) j in omega (arith, h))
+  ],
+  (λ j. let h = two_rows_bound n (Some 0 ∷ Some (suc n) ∷ []) j in omega (arith, h), two_rows_apart n),
+)
+
+two_rows_length : (n : ℕ) → length (two_rows n) ≡ n + n
+unfolding two_rows
+two_rows_length zero = refl
+two_rows_length (suc n) = let h = two_rows_length n in omega (arith, h)
+
+zero_row : (n : ℕ) → In (Some 0 ∷ []) (possible numbers (naming n) only_zero)
+zero_row n =
+    let p = star (inverse (link 1)) in
+    gather_in _ (up_to n) 0 (Some 0 ∷ []) (zero_named n) (gather_in _ (up_to n) 0 (Some 0 ∷ []) (zero_named n)
+    (one_in (stand numbers (variable 0) (constant 0) 0 0 && pair numbers (naming n) p 0 0) _ (Some 0 ∷ [])
+    (star_here exact (naming n) (inverse (link 1)) 0 (in_has exact 0 (up_to n) (zero_named n))) refl))
+
+object_row : (n k : ℕ) → In (0, k) (facts n) → In (None ∷ Some k ∷ []) (possible numbers (naming n) (line (constant 0) (link 0) (variable 1)))
+object_row n k i =
+    gather_in _ (up_to n) 0 (None ∷ Some k ∷ []) (zero_named n) (gather_in _ (up_to n) k (None ∷ Some k ∷ []) (fact_named n k i)
+    (one_in (stand numbers (constant 0) (variable 1) 0 k && pair numbers (naming n) (link 0) 0 k) _ (None ∷ Some k ∷ []) (fact_linked n k i) refl))
+
+two_rows_possible : (n m : ℕ) → ((k : ℕ) → In (0, k) (facts m) → In (0, k) (facts n)) → (r : Row ℕ) → In r (two_rows m)
+    → In r (possible numbers (naming n) (opt (line (constant 0) (link 0) (variable 1)) only_zero)) × (compatible numbers (Some 0 ∷ []) r ≡ true)
+unfolding two_rows
+two_rows_possible n zero h r i = elim i [ ]
+two_rows_possible n (suc m) h r (inl e) =
+    let B = possible numbers (naming n) (line (constant 0) (link 0) (variable 1)) in
+    let A = possible numbers (naming n) only_zero in (
+      subst (λ z. In z (merges numbers B A ++ B)) (sym e) (in_right (None ∷ Some (suc m) ∷ []) (merges numbers B A) B (object_row n (suc m) (h (suc m) (inl refl)))),
+      ap (compatible numbers (Some 0 ∷ [])) e,
+    )
+two_rows_possible n (suc m) h r (inr (inl e)) =
+    let B = possible numbers (naming n) (line (constant 0) (link 0) (variable 1)) in
+    let A = possible numbers (naming n) only_zero in (
+      in_left r (merges numbers B A) B (merges_in numbers B A (None ∷ Some (suc m) ∷ []) (Some 0 ∷ []) r (object_row n (suc m) (h (suc m) (inl refl))) (zero_row n) refl e),
+      ap (compatible numbers (Some 0 ∷ [])) e,
+    )
+two_rows_possible n (suc m) h r (inr (inr i)) = two_rows_possible n m (λ k j. h k (inr j)) r i
+
+pub own_rows_are_counted : OwnRowsAreCounted
+own_rows_are_counted n h = record {
+  asking = part 1 (opt (line (constant 0) (link 0) (variable 1)) only_zero) (Some 0 ∷ []);
+  reached = there (from_left_side refl (Some 0 ∷ []) (zero_row n) refl) here;
+  crowded = rows (record {
+    members = two_rows n;
+    apart = two_rows_apart n;
+    many = let e = two_rows_length n in omega (arith, e, h);
+    each = two_rows_possible n n (λ k i. i);
+  });
+}

@@ -1,6 +1,6 @@
 -- When there are too many: one document that names n objects, for any n. The terms are numbers, and the document is that of 0.
 use Rattle.std.specs.Prelude.{ℕ, zero, suc, ◌<◌, cond, ◌↔◌, true, List, [], ◌∷◌, ◌==◌}
-use Rattle.grammar.specs.Syntax.{link, star, sequence, constant, variable, Pattern, line}
+use Rattle.grammar.specs.Syntax.{link, inverse, star, sequence, constant, variable, Pattern, line, and, opt}
 use Rattle.semantics.specs.Terms.{Terms}
 use Rattle.semantics.specs.Graphs.{Graph}
 use Rattle.walks.specs.Promises.{whole}
@@ -44,3 +44,16 @@ leads_nowhere = line (constant 0) (sequence (link 0) (link 1)) (variable 0)
 -- Parts inside a path are counted too: there is no solution, but as many middle terms as objects.
 abbrev pub MiddleTermsAreCounted : Type 0
 MiddleTermsAreCounted = (n : ℕ) → TooMany numbers (naming n) (whole leads_nowhere) ↔ (256 < n)
+
+-- ?x (^<1>)* <0> . only 0 itself, since nothing leads on by 1
+abbrev pub only_zero : Pattern ℕ ℕ
+only_zero = line (variable 0) (star (inverse (link 1))) (constant 0)
+
+-- { ?x (^<1>)* <0> . { <0> <0> ?y . OPTIONAL { ?x (^<1>)* <0> . } } }
+abbrev pub each_twice : Pattern ℕ ℕ
+each_twice = and only_zero (opt (line (constant 0) (link 0) (variable 1)) only_zero)
+
+-- A sub-question's own rows are counted. The group is reached with ?x fixed to 0, and has each object in two rows, one of which gives ?x and the other does not;
+-- merged with what is fixed they would be one. So 129 objects are too many.
+abbrev pub OwnRowsAreCounted : Type 0
+OwnRowsAreCounted = (n : ℕ) → 128 < n → TooMany numbers (naming n) (whole each_twice)
