@@ -53,7 +53,7 @@ only_zero = line (variable 0) (star (inverse (link 1))) (constant 0)
 abbrev pub each_twice : Pattern ℕ ℕ
 each_twice = and only_zero (opt (line (constant 0) (link 0) (variable 1)) only_zero)
 
--- A sub-question's own rows are counted. The group is reached with ?x fixed to 0, and has each object in two rows, one of which gives ?x and the other does not;
--- merged with what is fixed they would be one. So 129 objects are too many.
+-- A sub-question's own rows are counted. The group is reached with ?x fixed to 0, and has each object in two rows, one of which gives ?x and the other does
+-- not; merged with what is fixed they would be one. So 129 objects are too many.
 abbrev pub OwnRowsAreCounted : Type 0
 OwnRowsAreCounted = (n : ℕ) → 128 < n → TooMany numbers (naming n) (whole each_twice)

@@ -51,4 +51,5 @@ abbrev pub FourDocumentsDecide : Type 0
 FourDocumentsDecide =
     (k : Kind) → Lawful k → (w : Term → Told Term) → AgreeOn by_bytes four tells w
     → (U W : List Term) → Universe by_bytes (lists_of tells) question U → Universe by_bytes (lists_of w) question W
-    → (m : Row Term) → weight_in by_bytes (graph_of by_bytes (lists_of tells) U) k question m ≡ weight_in by_bytes (graph_of by_bytes (lists_of w) W) k question m
+    → (m : Row Term)
+    → weight_in by_bytes (graph_of by_bytes (lists_of tells) U) k question m ≡ weight_in by_bytes (graph_of by_bytes (lists_of w) W) k question m

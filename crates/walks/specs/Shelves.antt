@@ -71,8 +71,8 @@ RecordSuffices A =
     → (U V : List A) → Universe T (lists_of tells) p U → Universe T (shelf_by T tells recorded) p V → AllSettled T tells recorded V p
     → (m : Row A) → weight_in T (graph_of T (lists_of tells) U) k p m ≡ weight_in T (shelf_graph T tells recorded V) k p m
 
--- No other document could have changed the list: where all that a question needs over the shelf is settled, it has the same solutions and weights over the whole
--- of every Web that tells the same at the recorded addresses, whatever that Web tells elsewhere.
+-- No other document could have changed the list: where all that a question needs over the shelf is settled, it has the same solutions and weights over the
+-- whole of every Web that tells the same at the recorded addresses, whatever that Web tells elsewhere.
 abbrev pub RecordDecides : Type 0 → Type 0
 RecordDecides A =
     (T : Terms A) → Exact T → (k : Kind) → Lawful k → (v w : A → Told A) (recorded : List A) (p : Pattern A ℕ) → judged p 0 ≡ true
