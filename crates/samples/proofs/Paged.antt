@@ -12,7 +12,13 @@ use Rattle.semantics.proofs.Universes.{about_in}
 use Rattle.walks.specs.Plans.{Asking, Needed}
 use Rattle.walks.specs.Needs.{needs}
 use Rattle.walks.proofs.Listed.{needs_are_listed}
-use Rattle.samples.proofs.Lists.{each_passes, within, page_within}
+use Rattle.samples.proofs.Lists.{each_passes, within, within_has}
+
+-- a page, or else the other pages
+page_within : (a : Term) (b : Bool) (page rest : List (Triple Term)) (U : List Term) → within (terms_listed page) U ≡ true
+    → (has by_bytes a (terms_listed rest) ≡ true → has by_bytes a U ≡ true) → has by_bytes a (terms_listed (cond b page rest)) ≡ true → has by_bytes a U ≡ true
+page_within a true page rest U h k e = within_has (terms_listed page) U h a e
+page_within a false page rest U h k e = k e
 
 abbrev pub Pages : Type 0
 Pages = List (Term × List (Triple Term))
@@ -28,7 +34,7 @@ paged_has : (U : List Term) (ps : Pages) → pages_within U ps ≡ true → (i a
 paged_has U [] h i a e = clash e refl
 paged_has U (p ∷ ps) h i a e =
     let s = and_parts (within (terms_listed p.1) U) (pages_within U ps) h in
-    page_within i a (by_bytes.same i p.0) p.1 (paged ps i) U s.0 (paged_has U ps s.1 i a) e
+    page_within a (by_bytes.same i p.0) p.1 (paged ps i) U s.0 (paged_has U ps s.1 i a) e
 
 pub pages_closed : (U : List Term) (ps : Pages) → Distinct by_bytes U → pages_within U ps ≡ true → Closed by_bytes (graph_of by_bytes (paged ps) U)
 pages_closed U ps d h = record {
