@@ -17,6 +17,9 @@ fn reserved_and_filled(rt: HostRuntime) -> Result<(), AllocError> {
     assert_eq!(rt; room.as_slice(), b"adc".as_slice());
     room.truncate(2);
     assert_eq!(rt; room.len(), 2);
+    assert!(rt; room.insert(1, b'e').is_ok());
+    assert!(rt; room.insert(1, b'f').is_err());
+    assert_eq!(rt; room.as_slice(), b"aed".as_slice());
     room.clear();
     assert_eq!(rt; room.len(), 0);
     Ok(())

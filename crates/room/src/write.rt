@@ -1,5 +1,6 @@
 // A room made, filled and emptied. Only making one asks for memory.
 ghost use Rattle.std.specs.Prelude.{◌≡◌, ◌+◌, ◌<◌, ◌≤◌, ◌↔◌, [], ◌∷◌, ◌++◌, length, take, set as set_at, IfOk, IsOk, OnErr};
+ghost use Rattle.std.specs.List.{insert as insert_at};
 ghost use Rattle.room.specs.Items.{items};
 
 use crate::full::Full;
@@ -26,6 +27,22 @@ impl<T, const N: usize> Room<T, N> {
             return Err(Full);
         }
         self.items.push_reserved(item);
+        Ok(())
+    }
+
+    // Puts an item before the one at a place, which makes way with all behind it; past the last one it stands behind all.
+    pub fn insert(&mut self, place: usize, item: T) -> Result<(), Full>
+    where
+        T: Drop,
+        ensures answer { IsOk result ↔ (length (items self.old) < N) }
+        ensures taken { length (items self.old) < N → items self.new ≡ insert_at (items self.old) place item }
+        ensures full { OnErr result (items self.new ≡ items self.old) }
+    {
+        if self.is_full() {
+            return Err(Full);
+        }
+        let place = place.min(self.items.len());
+        let _ = self.items.insert(place, item);
         Ok(())
     }
 
