@@ -1,0 +1,4 @@
+pub mod Ordered
+pub mod Entering
+pub mod Told
+pub mod Settled

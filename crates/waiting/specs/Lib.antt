@@ -1,0 +1,4 @@
+pub mod Order
+pub mod Entered
+pub mod Waits
+pub mod Laws
