@@ -5,6 +5,7 @@ pub mod Gives
 pub mod Growth
 pub mod Keeping
 pub mod Listed
+pub mod Namesakes
 pub mod Paths
 pub mod Recorded
 pub mod Translating

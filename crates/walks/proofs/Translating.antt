@@ -51,7 +51,7 @@ module _ {A B : Type 0} (f : A → B) where
   slot_merge None u = refl
   slot_merge (Some a) u = refl
 
-  row_merge : (a b : Row A) → row_by f (merge a b) ≡ merge (row_by f a) (row_by f b)
+  pub row_merge : (a b : Row A) → row_by f (merge a b) ≡ merge (row_by f a) (row_by f b)
   row_merge [] b = refl
   row_merge (o ∷ a) [] = refl
   row_merge (o ∷ a) (u ∷ b) = ap₂ ◌∷◌ (slot_merge o u) (row_merge a b)
@@ -69,13 +69,13 @@ module _ {A B : Type 0} (f : A → B) where
   row_given (o ∷ r) zero = refl
   row_given (o ∷ r) (suc v) = row_given r v
 
-  fixed_by_lem : (r : Row A) (e : End A ℕ) → fixed_to (row_by f r) (end_by f e) ≡ slot_by f (fixed_to r e)
+  pub fixed_by_lem : (r : Row A) (e : End A ℕ) → fixed_to (row_by f r) (end_by f e) ≡ slot_by f (fixed_to r e)
   fixed_by_lem r (constant t) = refl
   fixed_by_lem r (variable v) = row_given r v
 
   -- ---- judging
 
-  walkable_by : (p : Path A) (l r : Bool) → walkable (path_by f p) l r ≡ walkable p l r
+  pub walkable_by : (p : Path A) (l r : Bool) → walkable (path_by f p) l r ≡ walkable p l r
   walkable_by (link u) l r = refl
   walkable_by (negated us) l r = refl
   walkable_by (inverse p) l r = walkable_by p r l
@@ -87,11 +87,11 @@ module _ {A B : Type 0} (f : A → B) where
   end_mask_lem (constant t) = refl
   end_mask_lem (variable v) = refl
 
-  end_fixed : (m : ℕ) (e : End A ℕ) → fixed (member m) (end_by f e) ≡ fixed (member m) e
+  pub end_fixed : (m : ℕ) (e : End A ℕ) → fixed (member m) (end_by f e) ≡ fixed (member m) e
   end_fixed m (constant t) = refl
   end_fixed m (variable v) = refl
 
-  sure_by : (p : Pattern A ℕ) → sure_mask (pattern_by f p) ≡ sure_mask p
+  pub sure_by : (p : Pattern A ℕ) → sure_mask (pattern_by f p) ≡ sure_mask p
   sure_by empty = refl
   sure_by (line e p d) = ap₂ bit_or (end_mask_lem e) (end_mask_lem d)
   sure_by (and p q) = ap₂ bit_or (sure_by p) (sure_by q)
@@ -107,7 +107,7 @@ module _ {A B : Type 0} (f : A → B) where
   judged_by_lem (union p q) m = ap₂ ◌&&◌ (ap₂ ◌&&◌ (judged_by_lem p m) (judged_by_lem q m)) (ap₂ eqb (sure_by p) (sure_by q))
   judged_by_lem (opt p q) m = ap₂ ◌&&◌ (judged_by_lem p m) (ap (judged (pattern_by f q)) (sure_by p) ∙ judged_by_lem q (sure_mask p))
 
-  left_by : (m : ℕ) (p q : Pattern A ℕ) → left_first m (pattern_by f p) (pattern_by f q) ≡ left_first m p q
+  pub left_by : (m : ℕ) (p q : Pattern A ℕ) → left_first m (pattern_by f p) (pattern_by f q) ≡ left_first m p q
   left_by m p q = ap₂ ◌&&◌ (judged_by_lem p m) (ap (λ n. judged (pattern_by f q) (bit_or m n)) (sure_by p) ∙ judged_by_lem q (bit_or m (sure_mask p)))
 
 -- ---- valid rows and bags
@@ -117,11 +117,11 @@ module _ {A B : Type 0} (T : Terms A) (S : Terms B) (valid : A → Bool) (f : A 
   abbrev Ok : A → Type 0
   Ok a = valid a ≡ true
 
-  abbrev SlotOk : Option A → Type 0
+  abbrev pub SlotOk : Option A → Type 0
   SlotOk None = Unit {0}
   SlotOk (Some a) = valid a ≡ true
 
-  abbrev RowOk : Row A → Type 0
+  abbrev pub RowOk : Row A → Type 0
   RowOk [] = Unit {0}
   RowOk (o ∷ r) = SlotOk o × RowOk r
 
@@ -133,12 +133,12 @@ module _ {A B : Type 0} (T : Terms A) (S : Terms B) (valid : A → Bool) (f : A 
   row_ok [] h = tt
   row_ok (o ∷ r) h = (h zero, row_ok r (λ v. h (suc v)))
 
-  given_ok : (r : Row A) (v : ℕ) → RowOk r → SlotOk (given r v)
+  pub given_ok : (r : Row A) (v : ℕ) → RowOk r → SlotOk (given r v)
   given_ok [] v h = tt
   given_ok (o ∷ r) zero h = h.0
   given_ok (o ∷ r) (suc v) h = given_ok r v h.1
 
-  merge_ok : (a b : Row A) → RowOk a → RowOk b → RowOk (merge a b)
+  pub merge_ok : (a b : Row A) → RowOk a → RowOk b → RowOk (merge a b)
   merge_ok [] b h k = k
   merge_ok (o ∷ a) [] h k = h
   merge_ok (None ∷ a) (u ∷ b) h k = (k.0, merge_ok a b h.1 k.1)
@@ -161,7 +161,7 @@ module _ {A B : Type 0} (T : Terms A) (S : Terms B) (valid : A → Bool) (f : A 
   agree_by (Some a) None h k = refl
   agree_by (Some a) (Some b) h k = apart a b h k
 
-  compatible_by : (a b : Row A) → RowOk a → RowOk b → compatible S (row_by f a) (row_by f b) ≡ compatible T a b
+  pub compatible_by : (a b : Row A) → RowOk a → RowOk b → compatible S (row_by f a) (row_by f b) ≡ compatible T a b
   compatible_by [] b h k = refl
   compatible_by (o ∷ a) [] h k = refl
   compatible_by (o ∷ a) (u ∷ b) h k = ap₂ ◌&&◌ (agree_by o u h.0 k.0) (compatible_by a b h.1 k.1)
@@ -175,7 +175,7 @@ module _ {A B : Type 0} (T : Terms A) (S : Terms B) (valid : A → Bool) (f : A 
   stand_by e d a b he hd ka kb = ap₂ ◌&&◌ (stands_by e a he ka) (ap₂ ◌&&◌ (stands_by d b hd kb)
       (ap₂ (compatible S) (sym (row_end f e a)) (sym (row_end f d b)) ∙ compatible_by (end_row e a) (end_row d b) (end_ok e a ka) (end_ok d b kb)))
 
-  allows_by : (o : Option A) (a : A) → SlotOk o → Ok a → allows S (slot_by f o) (f a) ≡ allows T o a
+  pub allows_by : (o : Option A) (a : A) → SlotOk o → Ok a → allows S (slot_by f o) (f a) ≡ allows T o a
   allows_by None a h k = refl
   allows_by (Some b) a h k = apart b a h k
 
@@ -212,19 +212,19 @@ module _ {A B : Type 0} (T : Terms A) (S : Terms B) (valid : A → Bool) (f : A 
 
 module _ {A B : Type 0} (T : Terms A) (x : Exact T) (S : Terms B) (valid : A → Bool) (f : A → B) (G : Graph A) (context : B → List (B × B))
     (n : Faithful T S valid f G context) where
-  abbrev H : Graph B
+  abbrev pub H : Graph B
   H = graph_by f G context
 
-  abbrev Fine : A → Type 0
+  abbrev pub Fine : A → Type 0
   Fine a = valid a ≡ true
 
-  abbrev AllFine : List A → Type 0
+  abbrev pub AllFine : List A → Type 0
   AllFine l = (t : A) → In t l → valid t ≡ true
 
-  fine_left : (l m : List A) → AllFine (l ++ m) → AllFine l
+  pub fine_left : (l m : List A) → AllFine (l ++ m) → AllFine l
   fine_left l m h t i = h t (in_left t l m i)
 
-  fine_right : (l m : List A) → AllFine (l ++ m) → AllFine m
+  pub fine_right : (l m : List A) → AllFine (l ++ m) → AllFine m
   fine_right l m h t i = h t (in_right t l m i)
 
   pub pair_by : (p : Path A) → AllFine (terms_in_path p) → (a b : A) → Fine a → Fine b → pair S H (path_by f p) (f a) (f b) ≡ pair T G p a b
@@ -241,7 +241,7 @@ module _ {A B : Type 0} (T : Terms A) (x : Exact T) (S : Terms B) (valid : A →
       (λ c d kc kd. ap₂ ◌||◌ (ap₂ ◌&&◌ (n.apart c d kc kd) (has_by T S valid f n.apart c G.universe kc n.terms)) (pair_by p h c d kc kd))
       G.universe n.terms a b ka kb
 
-  possible_fine : (p : Pattern A ℕ) (a : Row A) → In a (possible T G p) → RowOk T S valid f n.apart a
+  pub possible_fine : (p : Pattern A ℕ) (a : Row A) → In a (possible T G p) → RowOk T S valid f n.apart a
   possible_fine p a i = row_ok T S valid f n.apart a (λ v. fine (given a v) (known_less x G _ false (given a v) (λ e. clash e refl) (possible_gives x G p a i v)))
     where
       fine : (o : Option A) → Known T G false o → SlotOk T S valid f n.apart o
@@ -331,10 +331,10 @@ module _ {A B : Type 0} (T : Terms A) (x : Exact T) (S : Terms B) (valid : A →
 
   -- ---- needs
 
-  abbrev SlotFine : Option A → Type 0
+  abbrev pub SlotFine : Option A → Type 0
   SlotFine o = SlotOk T S valid f n.apart o
 
-  abbrev RowFine : Row A → Type 0
+  abbrev pub RowFine : Row A → Type 0
   RowFine r = RowOk T S valid f n.apart r
 
   iri_by : (o : Option A) → SlotFine o → iri_at S H (slot_by f o) ≡ each f (iri_at T G o)
@@ -391,7 +391,7 @@ module _ {A B : Type 0} (T : Terms A) (x : Exact T) (S : Terms B) (valid : A →
       cond_each (row_by f) _ (compatible T r a) _ _ (a ∷ suited T G r L) (suited T G r L)
       (compatible_by T S valid f n.apart r a h (k a (inl refl))) (ap (◌∷◌ (row_by f a)) rest) rest
 
-  fixed_fine : (r : Row A) (e : End A ℕ) → RowFine r → AllFine (term_of_end e) → SlotFine (fixed_to r e)
+  pub fixed_fine : (r : Row A) (e : End A ℕ) → RowFine r → AllFine (term_of_end e) → SlotFine (fixed_to r e)
   fixed_fine r (constant t) k h = h t (inl refl)
   fixed_fine r (variable v) k h = given_ok T S valid f n.apart r v k
 

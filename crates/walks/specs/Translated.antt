@@ -1,6 +1,6 @@
 -- Terms under other names, as a session has numbers for them: a map from terms to terms that keeps apart what is valid, and paths, questions, rows and
 -- bags translated by it.
-use Rattle.std.specs.Prelude.{◌≡◌, ℕ, Bool, true, List, [], ◌∷◌, Some, None, Option}
+use Rattle.std.specs.Prelude.{◌≡◌, ℕ, Bool, true, ◌↔◌, List, [], ◌∷◌, Some, None, Option}
 use Rattle.weights.specs.Kinds.{Kind}
 use Rattle.weights.specs.Scales.{codes}
 use Rattle.grammar.specs.Syntax.{Path, link, negated, inverse, star, sequence, alternative, End, constant, variable, Pattern, empty, line, and, union, opt}
@@ -8,9 +8,10 @@ use Rattle.grammar.specs.Judged.{judged}
 use Rattle.semantics.specs.Terms.{Terms, Exact, In}
 use Rattle.semantics.specs.Rows.{Row}
 use Rattle.semantics.specs.Bags.{Bag}
-use Rattle.semantics.specs.Graphs.{Graph}
+use Rattle.semantics.specs.Graphs.{Graph, Closed}
 use Rattle.semantics.specs.Meaning.{meaning, possible}
 use Rattle.semantics.specs.Webs.{terms_in}
+use Rattle.walks.specs.Crowds.{TooMany}
 use Rattle.walks.specs.Needs.{needs}
 use Rattle.walks.specs.Promises.{whole}
 
@@ -72,3 +73,11 @@ abbrev pub NamesAreFree : Type 0 → Type 0 → Type 0
 NamesAreFree A B =
     (T : Terms A) → Exact T → (S : Terms B) (valid : A → Bool) (f : A → B) (G : Graph A) (context : B → List (B × B)) → Faithful T S valid f G context
     → (p : Pattern A ℕ) → ((t : A) → In t (terms_in p) → valid t ≡ true) → Translates T S f G (graph_by f G context) p
+
+-- Where names lead back to their terms, a translated question has too many possible solutions exactly where the question has.
+abbrev pub CrowdsAreTranslated : Type 0 → Type 0 → Type 0
+CrowdsAreTranslated A B =
+    (T : Terms A) → Exact T → (S : Terms B) → Exact S → (valid : A → Bool) (f : A → B) (back : B → A) → ((a : A) → valid a ≡ true → back (f a) ≡ a)
+    → (G : Graph A) (context : B → List (B × B)) → Faithful T S valid f G context → Closed T G → Closed S (graph_by f G context)
+    → (p : Pattern A ℕ) → ((t : A) → In t (terms_in p) → valid t ≡ true)
+    → TooMany T G (whole p) ↔ TooMany S (graph_by f G context) (whole (pattern_by f p))

@@ -1,5 +1,5 @@
 ghost use Rattle.walks.specs.Kept.{PossibleIsKept};
-ghost use Rattle.walks.specs.Translated.{NamesAreFree};
+ghost use Rattle.walks.specs.Translated.{NamesAreFree, CrowdsAreTranslated};
 ghost use Rattle.walks.specs.Shelves.{SameShelf, EveryShelfHasItsUniverse, RecordSuffices, RecordDecides, ShelvesGrow, LookedUpStaysNeeded};
 ghost use Rattle.walks.specs.Promises.{WalkIsComplete, NothingElseMatters, WalksOnlyGrow, NeedsAreMet, NeedsAreListed};
 
@@ -27,6 +27,11 @@ pub fn needs_are_listed<A>()
 // Under other names for its terms, as numbers, a question has its verdict, its rows and weights and its needs under those names.
 pub fn names_are_free<A, B>()
     ensures { NamesAreFree A B }
+{}
+
+// And too many possible solutions under those names exactly where it has too many.
+pub fn crowds_are_translated<A, B>()
+    ensures { CrowdsAreTranslated A B }
 {}
 
 // What a Web tells at the recorded addresses makes the shelf, and the shelf has its universe.

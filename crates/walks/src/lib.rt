@@ -4,6 +4,7 @@
 mod laws;
 
 pub use laws::{
-    lookups_stay_needed, names_are_free, needs_are_listed, nothing_else_matters,
-    record_makes_the_shelf, record_suffices, walk_is_complete, walks_only_grow,
+    crowds_are_translated, lookups_stay_needed, names_are_free, needs_are_listed,
+    nothing_else_matters, record_makes_the_shelf, record_suffices, walk_is_complete,
+    walks_only_grow,
 };
