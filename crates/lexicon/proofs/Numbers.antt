@@ -194,7 +194,7 @@ enter_twice ts t = enter_there (enter ts t) t (number_entered ts t)
 
 -- ---- each term once
 
-abbrev Once : List Term → Type 0
+abbrev pub Once : List Term → Type 0
 Once ts = (n : ℕ) (t : Term) → term_at ts n ≡ Some t → number_of ts t ≡ n
 
 at_front : (ts x : List Term) (n : ℕ) → n ≤ length ts → term_at (ts ++ x) n ≡ term_at ts n
@@ -231,7 +231,7 @@ once_enter ts x once = go (number_of ts x) refl
     go zero e = subst Once (sym (enter_new ts x e)) (once_behind ts x e once)
     go (suc n) e = subst Once (sym (enter_there ts x (omega (arith, e)))) once
 
-once_all : (ts xs : List Term) → Once ts → Once (enter_all ts xs)
+pub once_all : (ts xs : List Term) → Once ts → Once (enter_all ts xs)
 once_all ts [] once = once
 once_all ts (x ∷ xs) once = once_all (enter ts x) xs (once_enter ts x once)
 
