@@ -1,4 +1,5 @@
 ghost use Rattle.recorded.specs.Recorded.{FreshIsRecorded, EnteringKeepsIt, NotingKeepsIt, LookingKeepsIt, RecordIsOfItsAddresses};
+ghost use Rattle.recorded.specs.ByNumber.{DocumentsAreTheWebs, ContextsAreTheWebs, GraphsAreNamesakes};
 
 // From the fresh session on, what a session keeps is what the Web tells, and only at the addresses that are recorded.
 pub fn record_is_kept()
@@ -7,4 +8,11 @@ pub fn record_is_kept()
     ensures noting { NotingKeepsIt }
     ensures looking { LookingKeepsIt }
     ensures addresses { RecordIsOfItsAddresses }
+{}
+
+// By number the documents at hand are those that the Web finds at the recorded IRIs, but for unfit ones.
+pub fn numbers_name_terms()
+    ensures documents { DocumentsAreTheWebs }
+    ensures contexts { ContextsAreTheWebs }
+    ensures graphs { GraphsAreNamesakes }
 {}
