@@ -172,7 +172,7 @@ module _ (v : Tells) (s : State) (r : Recorded v s) where
   entry_valid : (k : Noted) → Holds v s k → valid k.iri ≡ true
   entry_valid k h = ap is_some (names_iri k h)
 
-  entry_named : (k : Noted) (h : Holds v s k) → f k.iri ≡ term Iri h.address
+  pub entry_named : (k : Noted) (h : Holds v s k) → f k.iri ≡ term Iri h.address
   entry_named k h = ap (λ o. unwrap_or o no_term) (names_iri k h)
 
   found_numbers : (first : ℕ) (es : List Entry) → AllHold first es → (n : ℕ) → AllNumbers (triples_of (listed_in (placed first es) s.triples n))

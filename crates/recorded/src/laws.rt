@@ -1,4 +1,5 @@
 ghost use Rattle.recorded.specs.Recorded.{FreshIsRecorded, EnteringKeepsIt, NotingKeepsIt, LookingKeepsIt, RecordIsOfItsAddresses};
+ghost use Rattle.recorded.specs.ByTerm.{NumbersAskTheSame, RecordAnswers, EvaluationAnswers};
 ghost use Rattle.recorded.specs.ByNumber.{DocumentsAreTheWebs, ContextsAreTheWebs, GraphsAreNamesakes};
 
 // From the fresh session on, what a session keeps is what the Web tells, and only at the addresses that are recorded.
@@ -15,4 +16,15 @@ pub fn numbers_name_terms()
     ensures documents { DocumentsAreTheWebs }
     ensures contexts { ContextsAreTheWebs }
     ensures graphs { GraphsAreNamesakes }
+{}
+
+// A question by number, over the documents at hand, asks what it asks by term over those of the record.
+pub fn numbers_ask_the_same()
+    ensures { NumbersAskTheSame }
+{}
+
+// Where all that it needs is recorded as found or absent, its rows of numbers are, by term, what it has over the whole Web; and so is the table of an evaluation.
+pub fn record_answers<C>()
+    ensures web { RecordAnswers C }
+    ensures evaluation { EvaluationAnswers C }
 {}

@@ -3,4 +3,4 @@
 
 mod laws;
 
-pub use laws::{numbers_name_terms, record_is_kept};
+pub use laws::{numbers_ask_the_same, numbers_name_terms, record_answers, record_is_kept};
