@@ -1,0 +1,3 @@
+pub mod Named
+pub mod Text
+pub mod Written

@@ -1,0 +1,13 @@
+// The text of a list of weighted rows, as it is handed out.
+#![tactic(auto)]
+
+mod name;
+mod names;
+mod naming;
+mod put;
+mod refusal;
+mod writing;
+
+pub use names::Names;
+pub use refusal::TooShort;
+pub use writing::list;
