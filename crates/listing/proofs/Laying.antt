@@ -1,8 +1,9 @@
 -- Bytes that are written piece by piece.
-use Rattle.std.proofs.Common.{◌≡◌, ℕ, ◌+◌, ◌-◌, ◌^◌, ◌<◌, ◌≤◌, min, List, [], ◌++◌, length, get_or, take, drop, sym, ap, ap₂, ◌∙◌, append_assoc, arith, length-append}
+use Rattle.std.proofs.Common.{◌≡◌, ℕ, ◌+◌, ◌-◌, ◌^◌, ◌<◌, ◌≤◌, min, List, [], ◌∷◌, ◌++◌, length, get_or, take, drop, sym, refl, ap, ap₂, ◌∙◌, append_assoc, arith, length-append}
 use Rattle.std.specs.List.{flat_map}
 use Rattle.std.proofs.lemmas.List.{length-take-le, length-drop, take-append-drop, take_at, drop_at, drop-drop, take_more, flat_map_more}
-use Rattle.listing.specs.Written.{laid, Puts}
+use Rattle.listing.specs.Text.{joined, line}
+use Rattle.listing.specs.Written.{laid, Puts, tabbed}
 
 -- what was written lies between what was there
 split : (x : List ℕ) (at : ℕ) (a : List ℕ) → laid x at a ≡ (take at a ++ x) ++ drop (at + length x) a
@@ -57,3 +58,20 @@ nothing at a h = record {
 -- the text of one item more
 pub item_more : {X : Type 0} (f : X → List ℕ) (xs : List X) (i : ℕ) (d : X) → i < length xs → flat_map f (take i xs) ++ f (get_or xs i d) ≡ flat_map f (take (i + 1) xs)
 item_more f xs i d h = flat_map_more f [] (take i xs) (get_or xs i d) ∙ ap (flat_map f) (sym (take_more xs i d h))
+
+-- ---- lines
+
+joined_more : (x : List ℕ) (xs : List (List ℕ)) (last : List ℕ) → joined (x ∷ (xs ++ last ∷ [])) ≡ x ++ 9 ∷ joined (xs ++ last ∷ [])
+joined_more x [] last = refl
+joined_more x (y ∷ ys) last = refl
+
+-- tab stands behind each part but the last
+pub line_is : (xs : List (List ℕ)) (last : List ℕ) → flat_map tabbed xs ++ (last ++ 10 ∷ []) ≡ line (xs ++ last ∷ [])
+line_is [] last = refl
+line_is (x ∷ xs) last =
+    let j = joined (xs ++ last ∷ []) in
+    append_assoc (tabbed x) (flat_map tabbed xs) (last ++ 10 ∷ [])
+    ∙ ap (λ l. tabbed x ++ l) (line_is xs last)
+    ∙ append_assoc x (9 ∷ []) (j ++ 10 ∷ [])
+    ∙ sym (append_assoc x (9 ∷ j) (10 ∷ []))
+    ∙ ap (λ l. l ++ 10 ∷ []) (sym (joined_more x xs last))

@@ -1,3 +1,4 @@
 pub mod Named
 pub mod Text
 pub mod Written
+pub mod Laws

@@ -7,20 +7,21 @@ use Rattle.tables.specs.declared.entry.Entry.{Entry}
 use Rattle.lexicon.specs.Numbering.{term_at}
 use Rattle.lexicon.specs.Spelling.{spelling}
 
--- tab behind a part
-abbrev pub tabbed : List ℕ → List ℕ
-tabbed x = x ++ 9 ∷ []
+-- with a tab between each part and the next
+abbrev pub joined : List (List ℕ) → List ℕ
+joined [] = []
+joined (x ∷ []) = x
+joined (x ∷ y ∷ ys) = x ++ 9 ∷ joined (y ∷ ys)
 
--- tab behind each part but the last, and LF behind that
-abbrev pub line : List (List ℕ) → List ℕ → List ℕ
-line parts last = flat_map tabbed parts ++ (last ++ 10 ∷ [])
+abbrev pub line : List (List ℕ) → List ℕ
+line parts = joined parts ++ 10 ∷ []
 
 abbrev pub name_text : Name → List ℕ
 name_text x = codes "?" ++ x
 
--- the variables and then the word for weight
-abbrev pub first_line : List Name → List ℕ
-first_line names = line (map name_text names) (codes "weight")
+-- the parts of the first line: the variables and then the word for weight
+abbrev pub heading : List Name → List (List ℕ)
+heading names = map name_text names ++ codes "weight" ∷ []
 
 -- nothing where there is no term
 abbrev pub term_text : Option Term → List ℕ
@@ -31,10 +32,13 @@ term_text (Some t) = spelling t
 abbrev pub place_text : List Term → ℕ → List ℕ
 place_text terms number = term_text (term_at terms number)
 
--- a row's term for each variable, and then its weight in decimal
-abbrev pub row_line : List Name → List Term → Entry → List ℕ
-row_line names terms e = line (map (place_text terms) (take (length names) e.row.places)) (decimal e.weight)
+-- the parts of a row's line: its term for each variable, and then its weight in decimal
+abbrev pub row_parts : List Name → List Term → Entry → List (List ℕ)
+row_parts names terms e = map (place_text terms) (take (length names) e.row.places) ++ decimal e.weight ∷ []
 
--- the first line, and one for each row
+-- the lines, each as its parts: the first one, and one for each row
+abbrev pub parts : List Name → List Entry → List Term → List (List (List ℕ))
+parts names rows terms = heading names ∷ map (row_parts names terms) rows
+
 abbrev pub text : List Name → List Entry → List Term → List ℕ
-text names rows terms = first_line names ++ flat_map (row_line names terms) rows
+text names rows terms = flat_map line (parts names rows terms)

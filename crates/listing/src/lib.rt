@@ -1,6 +1,7 @@
 // The text of a list of weighted rows, as it is handed out.
 #![tactic(auto)]
 
+mod laws;
 mod name;
 mod names;
 mod naming;
@@ -8,6 +9,7 @@ mod put;
 mod refusal;
 mod writing;
 
+pub use laws::lists_are_lawful;
 pub use names::Names;
 pub use refusal::TooShort;
 pub use writing::list;

@@ -3,8 +3,8 @@ ghost use Rattle.std.specs.Prelude.{◌++◌, ◌≤◌, map, length};
 ghost use Rattle.std.specs.List.{flat_map};
 ghost use Rattle.lexicon.specs.Held.{held};
 ghost use Rattle.listing.specs.Named.{bytes_of, named};
-ghost use Rattle.listing.specs.Text.{first_line, name_text, place_text, row_line, tabbed, text};
-ghost use Rattle.listing.specs.Written.{Puts, Writes};
+ghost use Rattle.listing.specs.Text.{line, name_text, place_text, row_parts, text};
+ghost use Rattle.listing.specs.Written.{Puts, Writes, tabbed};
 
 use crate::name::Name;
 use crate::names::Names;
@@ -37,7 +37,7 @@ fn put_places(terms: &Lexicon, places: &[u16], at: usize, into: &mut [u8]) -> us
 }
 
 fn put_row(names: &Names, entry: &Entry, terms: &Lexicon, at: usize, into: &mut [u8]) -> usize
-    ensures { Puts (row_line (named names.now) (held terms.now) entry.now) at into.old result into.new }
+    ensures { Puts (line (row_parts (named names.now) (held terms.now) entry.now)) at into.old result into.new }
 {
     let places = entry.row.places;
     let count = names.as_slice().len();

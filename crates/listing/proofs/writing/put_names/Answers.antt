@@ -4,7 +4,8 @@ use Rattle.std.proofs.lemmas.List.{take_all}
 use Rattle.std.proofs.lemmas.List.Folds.{flat_map-map}
 use Rattle.listing.specs.declared.name.Name.{Name}
 use Rattle.listing.specs.Named.{bytes_of}
-use Rattle.listing.specs.Text.{name_text, tabbed}
+use Rattle.listing.specs.Text.{name_text}
+use Rattle.listing.specs.Written.{tabbed}
 use Rattle.listing.proofs.Laying.{then, puts_as, item_more}
 use Rattle.listing.proofs.writing.put_names.Goals as goal
 

@@ -1,8 +1,8 @@
 use Rattle.std.proofs.Common.{take}
 use Rattle.std.specs.List.{flat_map}
 use Rattle.listing.specs.Named.{bytes_of}
-use Rattle.listing.specs.Text.{name_text, tabbed}
-use Rattle.listing.specs.Written.{Puts}
+use Rattle.listing.specs.Text.{name_text}
+use Rattle.listing.specs.Written.{Puts, tabbed}
 use Rattle.listing.proofs.writing.put_names.Given as goal
 
 abbrev pub invariant-loop-name : goal.invariant-loop-name

@@ -3,7 +3,8 @@ use Rattle.std.specs.List.{flat_map}
 use Rattle.std.proofs.lemmas.List.{take_all}
 use Rattle.std.proofs.lemmas.List.Folds.{flat_map-map}
 use Rattle.lexicon.specs.Held.{held}
-use Rattle.listing.specs.Text.{place_text, tabbed}
+use Rattle.listing.specs.Text.{place_text}
+use Rattle.listing.specs.Written.{tabbed}
 use Rattle.listing.proofs.Laying.{then, puts_as, item_more}
 use Rattle.listing.proofs.writing.put_places.Goals as goal
 

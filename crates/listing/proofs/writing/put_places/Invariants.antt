@@ -1,8 +1,8 @@
 use Rattle.std.proofs.Common.{take}
 use Rattle.std.specs.List.{flat_map}
 use Rattle.lexicon.specs.Held.{held}
-use Rattle.listing.specs.Text.{place_text, tabbed}
-use Rattle.listing.specs.Written.{Puts}
+use Rattle.listing.specs.Text.{place_text}
+use Rattle.listing.specs.Written.{Puts, tabbed}
 use Rattle.listing.proofs.writing.put_places.Given as goal
 
 abbrev pub invariant-loop-number : goal.invariant-loop-number

@@ -1,0 +1,14 @@
+// Lists can be relied on.
+ghost use Rattle.listing.specs.Laws.{TextTellsItsParts, OneLineMoreThanRows, LawfulTermsAreWhole, TextEndsWithItsLine, NoRowsAreOneLine, FirstLineIsOfNames, NamesOfQuestionsStay, NamesOfQuestionsAreWhole, ExampleReads};
+
+pub fn lists_are_lawful()
+    ensures parts { TextTellsItsParts }
+    ensures lines { OneLineMoreThanRows }
+    ensures terms { LawfulTermsAreWhole }
+    ensures ended { TextEndsWithItsLine }
+    ensures alone { NoRowsAreOneLine }
+    ensures first { FirstLineIsOfNames }
+    ensures names { NamesOfQuestionsStay }
+    ensures unparted { NamesOfQuestionsAreWhole }
+    ensures example { ExampleReads }
+{}
