@@ -6,6 +6,8 @@ mod laws;
 mod making;
 mod replace;
 mod take;
+#[cfg(test)]
+mod tests;
 mod waiting;
 
 pub use laws::waiting_is_settled;
