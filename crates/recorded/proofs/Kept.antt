@@ -58,7 +58,7 @@ map_more ts more (x ∷ xs) h =
     (λ i. record { subject = s i; predicate = p i; object = o i } ∷ rest i)
 
 -- what has entered has a number
-known_all : (ts xs : List Term) → Known (enter_all ts xs) xs
+pub known_all : (ts xs : List Term) → Known (enter_all ts xs) xs
 known_all ts [] u i = elim i [ ]
 known_all ts (x ∷ xs) u (inl e) =
     subst (λ z. 0 < number_of (enter_all (enter ts x) xs) z) (sym e) (omega (arith, number_stays (enter ts x) xs x (number_entered ts x), number_entered ts x))

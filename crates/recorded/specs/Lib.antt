@@ -1,3 +1,4 @@
 pub mod ByNumber
 pub mod ByTerm
+pub mod Questions
 pub mod Recorded

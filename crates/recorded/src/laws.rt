@@ -1,3 +1,4 @@
+ghost use Rattle.recorded.specs.Questions.{QuestionsAreNumbered, TermsAreAsked, EnteredTermsAreKnown, EvaluatedQuestionsAnswer};
 ghost use Rattle.recorded.specs.Recorded.{FreshIsRecorded, EnteringKeepsIt, NotingKeepsIt, LookingKeepsIt, RecordIsOfItsAddresses};
 ghost use Rattle.recorded.specs.ByTerm.{NumbersAskTheSame, RecordAnswers, EvaluationAnswers};
 ghost use Rattle.recorded.specs.ByNumber.{DocumentsAreTheWebs, ContextsAreTheWebs, GraphsAreNamesakes};
@@ -27,4 +28,16 @@ pub fn numbers_ask_the_same()
 pub fn record_answers<C>()
     ensures web { RecordAnswers C }
     ensures evaluation { EvaluationAnswers C }
+{}
+
+// A question that was read asks by number what it asks by term.
+pub fn questions_are_numbered()
+    ensures numbers { QuestionsAreNumbered }
+    ensures terms { TermsAreAsked }
+    ensures entered { EnteredTermsAreKnown }
+{}
+
+// So what an evaluation answers about it is what it has over the whole Web, where all that was marked is recorded as found or absent.
+pub fn evaluated_questions_answer<C>()
+    ensures { EvaluatedQuestionsAnswer C }
 {}

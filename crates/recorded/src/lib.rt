@@ -3,4 +3,7 @@
 
 mod laws;
 
-pub use laws::{numbers_ask_the_same, numbers_name_terms, record_answers, record_is_kept};
+pub use laws::{
+    evaluated_questions_answer, numbers_ask_the_same, numbers_name_terms, questions_are_numbered,
+    record_answers, record_is_kept,
+};
