@@ -4,7 +4,7 @@ use Rattle.std.specs.List.{flat_map, list_all}
 use Rattle.std.proofs.lemmas.Bool.{and_parts, and_from, cond-false, ne_eqb, not-true, not_from_false, or_from, or_parts, true≢false}
 use Rattle.std.proofs.lemmas.List.Folds.{list_all-append}
 use Rattle.std.proofs.lemmas.Fmt.{decimal_by_steps, decimal_digit}
-use Rattle.std.proofs.lemmas.List.{length-map, take_at}
+use Rattle.std.proofs.lemmas.List.{length-append, length-map, length-take-le, take_at}
 use Rattle.terms.specs.Bytes.{iri_byte, literal_byte}
 use Rattle.terms.specs.Lawful.{fitting, lawful}
 use Rattle.terms.specs.Terms.{Term}
@@ -13,7 +13,7 @@ use Rattle.grammar.specs.Grammar.{Name}
 use Rattle.tables.specs.declared.entry.Entry.{Entry}
 use Rattle.lexicon.specs.Numbering.{term}
 use Rattle.listing.specs.Text.{joined, line, name_text, heading, term_text, place_text, row_parts}
-use Rattle.listing.specs.Laws.{cut, lines_of, whole, whole_terms, weights_fit, TextTellsItsParts, OneLineMoreThanRows, LawfulTermsAreWhole, TextEndsWithItsLine, NoRowsAreOneLine, FirstLineIsOfNames, ExampleReads}
+use Rattle.listing.specs.Laws.{cut, lines_of, whole, whole_terms, weights_fit, TextTellsItsParts, OneLineMoreThanRows, LawfulTermsAreWhole, TextEndsWithItsLine, NoRowsAreOneLine, FirstLineIsOfNames, RowsHaveThePartsOfTheHeading, ExampleReads}
 
 -- ---- a part, a line, and all lines
 
@@ -136,6 +136,18 @@ no_rows names terms = append-nil (line (heading names))
 
 pub first_line : FirstLineIsOfNames
 first_line names rows terms = take_at (line (heading names)) (flat_map line (map (row_parts names terms) rows)) (length (line (heading names))) refl
+
+pub rows_even : RowsHaveThePartsOfTheHeading
+rows_even names terms e h =
+    let places = take (length names) e.row.places in
+    omega (
+      arith,
+      length-append (map (place_text terms) places) (decimal e.weight ∷ []),
+      length-map places (place_text terms),
+      length-take-le (length names) e.row.places h,
+      length-append (map name_text names) (codes "weight" ∷ []),
+      length-map names name_text,
+    )
 
 pub example_reads : ExampleReads
 example_reads e places weight =

@@ -1,5 +1,5 @@
 -- What a reader of a list can rely on.
-use Rattle.std.specs.Prelude.{◌≡◌, ℕ, ◌+◌, ◌^◌, Bool, true, cond, not, ◌||◌, List, [], ◌∷◌, ◌++◌, length, take, codes, ◌==◌, nat_lt}
+use Rattle.std.specs.Prelude.{◌≡◌, ℕ, ◌+◌, ◌^◌, ◌≤◌, Bool, true, cond, not, ◌||◌, List, [], ◌∷◌, ◌++◌, length, take, codes, ◌==◌, nat_lt}
 use Rattle.std.specs.List.{list_all}
 use Rattle.terms.specs.Lawful.{lawful}
 use Rattle.terms.specs.Terms.{Term}
@@ -9,7 +9,7 @@ use Rattle.tables.specs.declared.entry.Entry.{Entry}
 use Rattle.lexicon.specs.Numbering.{term}
 use Rattle.terms.specs.declared.kind.Kind.TheVariants.{Literal}
 use Rattle.listing.specs.Named.{shortened}
-use Rattle.listing.specs.Text.{heading, line, parts, text}
+use Rattle.listing.specs.Text.{heading, line, row_parts, parts, text}
 
 -- ---- a text cut again
 
@@ -66,6 +66,12 @@ abbrev pub FirstLineIsOfNames : Type 0
 FirstLineIsOfNames =
     (names : List Name) (rows : List Entry) (terms : List Term)
     → take (length (line (heading names))) (text names rows terms) ≡ line (heading names)
+
+-- where there are no more names than places: there are eight places, and eight names at most
+abbrev pub RowsHaveThePartsOfTheHeading : Type 0
+RowsHaveThePartsOfTheHeading =
+    (names : List Name) (terms : List Term) (e : Entry)
+    → length names ≤ length e.row.places → length (row_parts names terms e) ≡ length (heading names)
 
 -- ---- names
 
