@@ -7,6 +7,8 @@ mod names;
 mod naming;
 mod put;
 mod refusal;
+#[cfg(test)]
+mod tests;
 mod writing;
 
 pub use laws::lists_are_lawful;
