@@ -26,10 +26,11 @@ use Rattle.semantics.proofs.Lists.{in_either}
 use Rattle.walks.specs.Translated.{each, path_by, end_by, pattern_by}
 use Rattle.walks.proofs.Translating.{each-++}
 use Rattle.lexicon.specs.Numbering.{number_of, enter_all}
-use Rattle.store.specs.State.{State}
+use Rattle.store.proofs.Keeping.{numbers_stay}
+use Rattle.store.specs.State.{entered}
 use Rattle.evaluation.specs.Evaluated.{Evaluated}
 use Rattle.recorded.specs.Recorded.{Known}
-use Rattle.recorded.specs.Questions.{QuestionsAreNumbered, TermsAreAsked, EnteredTermsAreKnown, EvaluatedQuestionsAnswer}
+use Rattle.recorded.specs.Questions.{QuestionsAreNumbered, TermsAreAsked, EnteredTermsAreKnown, LookupsKeepNumbers, EvaluatedQuestionsAnswer}
 use Rattle.recorded.proofs.Kept.{known_all}
 use Rattle.recorded.proofs.Asking.{evaluation_answers}
 
@@ -152,7 +153,8 @@ module _ (q : Question) where
         → pattern_of (by_number numbers q) (each pattern_number ps) n ≡ pattern_number (pattern_of (env_of q) ps n)
     pattern_node ps pattern.Empty h k = refl
     pattern_node ps (pattern.Line l) h k =
-        ap₂ (λ a b. line a ((by_number numbers q).path l.path) b) (end_is l.subject (omega (arith, h)) (omega (arith, k))) (end_is l.object (omega (arith, h)) (omega (arith, k)))
+        ap₂ (λ a b. line a ((by_number numbers q).path l.path) b)
+        (end_is l.subject (omega (arith, h)) (omega (arith, k))) (end_is l.object (omega (arith, h)) (omega (arith, k)))
         ∙ ap (λ p. line (end_by g (renumbered_end (place (asked q).names) (end_of term (env_of q).name l.subject))) p
         (end_by g (renumbered_end (place (asked q).names) (end_of term (env_of q).name l.object)))) (path_is l.path)
     pattern_node ps (pattern.And p r) h k =
@@ -181,7 +183,8 @@ module _ (q : Question) where
   only_in u h t (inl e) = subst (λ z. In z ts) (sym e) h
   only_in u h t (inr j) = elim j [ ]
 
-  path_ours : (ps : List (Path Term)) (n : PathNode) → path_terms n ≤ length ts → ((p : Path Term) → In p ps → Ours (terms_in_path p)) → Ours (terms_in_path (path_of term ps n))
+  path_ours : (ps : List (Path Term)) (n : PathNode) → path_terms n ≤ length ts → ((p : Path Term) → In p ps → Ours (terms_in_path p))
+      → Ours (terms_in_path (path_of term ps n))
   path_ours ps (path.Link i) h a t j = only_in (term i) (term_in i (omega (arith, h))) t j
   path_ours ps (path.Negated i n) h a t j =
       let k = in_map term (up_from i n) t j in
@@ -189,9 +192,11 @@ module _ (q : Question) where
   path_ours ps (path.Inverse p) h a t i = at_all (λ z. Ours (terms_in_path z)) ps p (negated []) (λ t j. elim j [ ]) a t i
   path_ours ps (path.Star p) h a t i = at_all (λ z. Ours (terms_in_path z)) ps p (negated []) (λ t j. elim j [ ]) a t i
   path_ours ps (path.Sequence p r) h a t i = either_in (λ t. In t ts) (terms_in_path (path_at ps p)) (terms_in_path (path_at ps r))
-      (at_all (λ z. Ours (terms_in_path z)) ps p (negated []) (λ t j. elim j [ ]) a) (at_all (λ z. Ours (terms_in_path z)) ps r (negated []) (λ t j. elim j [ ]) a) t i
+      (at_all (λ z. Ours (terms_in_path z)) ps p (negated []) (λ t j. elim j [ ]) a)
+      (at_all (λ z. Ours (terms_in_path z)) ps r (negated []) (λ t j. elim j [ ]) a) t i
   path_ours ps (path.Alternative p r) h a t i = either_in (λ t. In t ts) (terms_in_path (path_at ps p)) (terms_in_path (path_at ps r))
-      (at_all (λ z. Ours (terms_in_path z)) ps p (negated []) (λ t j. elim j [ ]) a) (at_all (λ z. Ours (terms_in_path z)) ps r (negated []) (λ t j. elim j [ ]) a) t i
+      (at_all (λ z. Ours (terms_in_path z)) ps p (negated []) (λ t j. elim j [ ]) a)
+      (at_all (λ z. Ours (terms_in_path z)) ps r (negated []) (λ t j. elim j [ ]) a) t i
 
   path_at_ours : (i : ℕ) → Ours (terms_in_path ((env_of q).path i))
   path_at_ours i = at_all (λ z. Ours (terms_in_path z)) (paths_of term (items q.paths)) i (negated []) (λ t j. elim j [ ])
@@ -243,10 +248,20 @@ terms_are_asked us q h t i =
     h t (whole_ours q t (subst (λ l. In t l) (terms_renumbered (place (asked q).names) (asked q).pattern) i))
 
 pub entered_terms_are_known : EnteredTermsAreKnown
-entered_terms_are_known s q e =
-    subst (λ (u : State). Known u.terms (asked q).terms)
-    (sym (ap (λ b. cond b (record { terms = enter_all s.terms (asked q).terms; entries = s.entries; triples = s.triples }) s) e))
-    (known_all s.terms (asked q).terms)
+entered_terms_are_known s q before e =
+    let ts = (asked q).terms in
+    let all : (entered ts s).terms ≡ enter_all s.terms ts =
+    ap (λ b. (cond b (record { terms = enter_all s.terms ts; entries = s.entries; triples = s.triples }) s).terms) e in (
+      subst (λ l. Known l ts) (sym all) (known_all s.terms ts),
+      ap (λ b. cond b (map (number_of (enter_all s.terms ts)) ts) before) e ∙ ap (λ l. map (number_of l) ts) (sym all),
+    )
+
+pub lookups_keep_numbers : LookupsKeepNumbers
+lookups_keep_numbers t n s [] h = (λ u i. (elim i [ ]), refl)
+lookups_keep_numbers t n s (x ∷ ts) h = (
+  λ u i. subst (λ k. 0 < k) (sym (numbers_stay t n s u (h u i))) (h u i),
+  ap₂ ◌∷◌ (numbers_stay t n s x (h x (inl refl))) (lookups_keep_numbers t n s ts (λ u i. h u (inr i))).1,
+)
 
 pub evaluated_questions_answer : {C : Type 0} → EvaluatedQuestionsAnswer C
 evaluated_questions_answer mark meaning s h a r l n e k w marks table t all W u =

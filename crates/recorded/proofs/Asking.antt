@@ -119,7 +119,8 @@ module _ (v : Tells) (s : State) (h : Shelf) (p : Pattern Term ℕ) (U : List �
   faithful : Faithful T by_bytes (is_number s.terms) (named s.terms) G H.context
   faithful = to_terms v s r h asked.lends q q_valid U asked.universe V
 
-  pub asked_closed : (needs by_bytes H (whole p) ≡ each f (needs T G (whole q))) → (i : Term) → Needed by_bytes H (whole p) i → (n : ℕ) × Needed T G (whole q) n × (i ≡ f n)
+  pub asked_closed : (needs by_bytes H (whole p) ≡ each f (needs T G (whole q))) → (i : Term) → Needed by_bytes H (whole p) i
+      → (n : ℕ) × Needed T G (whole q) n × (i ≡ f n)
   asked_closed e i d =
       let cH = closed_in v s r h asked.lends q q_valid U asked.universe in
       let cG = closed_on v s r h asked.lends q q_valid U asked.universe in
@@ -161,7 +162,8 @@ module _ (v : Tells) (s : State) (h : Shelf) (p : Pattern Term ℕ) (U : List �
   in_fit : (es : List Entry) (e : Entry) → In e es → is_unfit e.mark ≡ false → In (f e.iri) (fit ts es)
   in_fit [] e i u = elim i [ ]
   in_fit (d ∷ es) e (inl i) u =
-      subst (λ b. In (f e.iri) (cond b (fit ts es) (f d.iri ∷ fit ts es))) (sym (ap (λ (z : Entry). is_unfit z.mark) (sym i) ∙ u)) (inl (ap (λ (z : Entry). f z.iri) i))
+      subst (λ b. In (f e.iri) (cond b (fit ts es) (f d.iri ∷ fit ts es))) (sym (ap (λ (z : Entry). is_unfit z.mark) (sym i) ∙ u))
+      (inl (ap (λ (z : Entry). f z.iri) i))
   in_fit (d ∷ es) e (inr i) u = go (is_unfit d.mark) (in_fit es e i u)
     where
       go : (b : Bool) → In (f e.iri) (fit ts es) → In (f e.iri) (cond b (fit ts es) (f d.iri ∷ fit ts es))

@@ -100,7 +100,8 @@ lawful_parts (x ∷ xs) e t i =
     let c = and_parts (lawful_iri x.subject) (lawful_iri x.predicate) b.0 in
     go (λ j. lawful_parts xs a.1 t j) b.1 c.0 c.1 i
   where
-    go : (In t (parts_of xs) → lawful_term t ≡ true) → lawful_term x.object ≡ true → lawful_iri x.subject ≡ true → lawful_iri x.predicate ≡ true → In t (parts_of (x ∷ xs)) → lawful_term t ≡ true
+    go : (In t (parts_of xs) → lawful_term t ≡ true) → lawful_term x.object ≡ true → lawful_iri x.subject ≡ true → lawful_iri x.predicate ≡ true
+        → In t (parts_of (x ∷ xs)) → lawful_term t ≡ true
     go r o s p (inl j) = subst (λ z. lawful_term z ≡ true) (sym j) (lawful_one x.subject s)
     go r o s p (inr (inl j)) = subst (λ z. lawful_term z ≡ true) (sym j) (lawful_one x.predicate p)
     go r o s p (inr (inr (inl j))) = subst (λ z. lawful_term z ≡ true) (sym j) o
@@ -156,7 +157,8 @@ says_more ts more t (Broken code place) ls h = h
 says_more ts more t Unfit ls h = h
 
 module _ (v : Tells) (s : State) (us tm : List Term) (eu : us ≡ s.terms ++ tm) (ms lm : List Listed) (em : ms ≡ s.triples ++ lm) where
-  holds_more : (es : List Entry) (n : Noted) → n.first + size n.mark ≤ length s.triples → Holds v s n → Holds v (record { terms = us; entries = es; triples = ms }) n
+  holds_more : (es : List Entry) (n : Noted) → n.first + size n.mark ≤ length s.triples → Holds v s n
+      → Holds v (record { terms = us; entries = es; triples = ms }) n
   holds_more es n le h = record {
     address = h.address;
     names = ap (λ l. address_of (term_at l n.iri)) eu ∙ address_more s.terms tm n.iri h.address h.names;
@@ -189,7 +191,8 @@ module _ (v : Tells) (s : State) (us tm : List Term) (eu : us ≡ s.terms ++ tm)
         ]);
   }
     where
-      last : Holds v (record { terms = us; entries = s.entries ++ record { iri = n; mark = m } ∷ []; triples = ms }) (record { iri = n; mark = m; first = 0 + total s.entries })
+      last : Holds v (record { terms = us; entries = s.entries ++ record { iri = n; mark = m } ∷ []; triples = ms })
+          (record { iri = n; mark = m; first = 0 + total s.entries })
       last = record {
         address = x;
         names = ap (λ l. address_of (term_at l n)) eu ∙ address_more s.terms tm n x a;

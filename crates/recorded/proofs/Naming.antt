@@ -1,5 +1,5 @@
 -- The documents at hand by number are those of the record by term.
-use Rattle.std.proofs.Common.{◌≡◌, ℕ, zero, suc, ◌+◌, ◌<◌, Bool, true, false, cond, ◌&&◌, ◌||◌, eqb, List, [], ◌∷◌, map, take, drop, is_some, unwrap_or, Some, None, Option, sym, refl, ap, ◌∙◌, subst, ap₂, inl, inr, arith}
+use Rattle.std.proofs.Common.{◌≡◌, ℕ, zero, suc, ◌+◌, ◌<◌, Bool, true, false, cond, ◌&&◌, ◌||◌, eqb, ltb, leb, List, [], ◌∷◌, map, length, take, drop, is_some, unwrap_or, Some, None, Option, sym, refl, ap, ◌∙◌, subst, ap₂, inl, inr, arith}
 use mathlib.Core.Path.{fun_ext}
 use Rattle.terms.specs.declared.kind.Kind.{Kind}
 use Rattle.terms.specs.declared.kind.Kind.TheVariants.{Iri, Literal}
@@ -33,7 +33,7 @@ use Rattle.store.specs.State.{State, parts_of, listed, placed}
 use Rattle.evaluation.specs.Evaluated.{triples_of, found_on, terms_on}
 use Rattle.evaluation.proofs.Defined.{same_contexts, numbers_exact}
 use Rattle.recorded.specs.Recorded.{Known, Says, Holds, iris_of, Recorded}
-use Rattle.recorded.specs.ByNumber.{named, is_number, is_known, triple_by, as_told, tells_by, is_unfit, fit, documents_of, graph_in, Lends, graph_on, DocumentsAreTheWebs, ContextsAreTheWebs, GraphsAreNamesakes}
+use Rattle.recorded.specs.ByNumber.{NumbersCount, named, is_number, is_known, triple_by, as_told, tells_by, is_unfit, fit, documents_of, graph_in, Lends, graph_on, DocumentsAreTheWebs, ContextsAreTheWebs, GraphsAreNamesakes}
 use Rattle.recorded.proofs.Kept.{address_term}
 
 -- ---- numbers and terms
@@ -97,9 +97,17 @@ module _ (v : Tells) (s : State) (r : Recorded v s) where
   abbrev valid : ℕ → Bool
   valid = is_number s.terms
 
+  -- triples of numbers, by term
+  abbrev renamed : List (Triple ℕ) → List (Triple Term)
+  renamed l = each (triple_by f) l
+
+  -- what the Web finds for a term
+  abbrev at_web : Term → List (Triple Term)
+  at_web t = triples (tells_by v t)
+
   -- ---- lists
 
-  listed_back : (xs : List web.Triple) → Known ts (parts_of xs) → each (triple_by f) (triples_of (map (listed ts) xs)) ≡ as_triples xs
+  listed_back : (xs : List web.Triple) → Known ts (parts_of xs) → renamed (triples_of (map (listed ts) xs)) ≡ as_triples xs
   listed_back [] h = refl
   listed_back (x ∷ xs) h =
       let hs = h x.subject (inl refl) in
@@ -107,15 +115,23 @@ module _ (v : Tells) (s : State) (r : Recorded v s) where
       let ho = h x.object (inr (inr (inl refl))) in
       let rest = listed_back xs (λ u j. h u (inr (inr (inr j)))) in
       let l = listed ts x in
-      ap (λ b. each (triple_by f) (cond b (triples_of (map (listed ts) xs)) (record { subject = l.subject; predicate = l.predicate; object = l.object } ∷ triples_of (map (listed ts) xs))))
+      let more = triples_of (map (listed ts) xs) in
+      ap (λ b. renamed (cond b more (record { subject = l.subject; predicate = l.predicate; object = l.object } ∷ more)))
       (positive (number_of ts x.object) ho)
-      ∙ (λ i. record { subject = named_number ts x.subject hs i; predicate = named_number ts x.predicate hp i; object = named_number ts x.object ho i } ∷ rest i)
+      ∙ (λ i. record {
+        subject = named_number ts x.subject hs i;
+        predicate = named_number ts x.predicate hp i;
+        object = named_number ts x.object ho i;
+      } ∷ rest i)
     where
       positive : (n : ℕ) → 0 < n → eqb n 0 ≡ false
       positive n h = grind arith
 
+  abbrev Fine : Triple ℕ → Type 0
+  Fine t = (valid t.subject ≡ true) × (valid t.predicate ≡ true) × (valid t.object ≡ true)
+
   abbrev AllNumbers : List (Triple ℕ) → Type 0
-  AllNumbers l = (t : Triple ℕ) → In t l → (valid t.subject ≡ true) × (valid t.predicate ≡ true) × (valid t.object ≡ true)
+  AllNumbers l = (t : Triple ℕ) → In t l → Fine t
 
   listed_numbers : (xs : List web.Triple) → Known ts (parts_of xs) → AllNumbers (triples_of (map (listed ts) xs))
   listed_numbers [] h t i = elim i [ ]
@@ -127,7 +143,7 @@ module _ (v : Tells) (s : State) (r : Recorded v s) where
       it : Triple ℕ
       it = record { subject = l.subject; predicate = l.predicate; object = l.object }
 
-      this : (t : Triple ℕ) → t ≡ it → (valid t.subject ≡ true) × (valid t.predicate ≡ true) × (valid t.object ≡ true)
+      this : (t : Triple ℕ) → t ≡ it → Fine t
       this t e = (
         ap (λ (z : Triple ℕ). valid z.subject) e ∙ number_is ts x.subject (h x.subject (inl refl)),
         ap (λ (z : Triple ℕ). valid z.predicate) e ∙ number_is ts x.predicate (h x.predicate (inr (inl refl))),
@@ -135,8 +151,8 @@ module _ (v : Tells) (s : State) (r : Recorded v s) where
       )
 
       go : (b : Bool) → In t (cond b (triples_of (map (listed ts) xs)) (it ∷ triples_of (map (listed ts) xs)))
-          → (In t (triples_of (map (listed ts) xs)) → (valid t.subject ≡ true) × (valid t.predicate ≡ true) × (valid t.object ≡ true))
-          → (valid t.subject ≡ true) × (valid t.predicate ≡ true) × (valid t.object ≡ true)
+          → (In t (triples_of (map (listed ts) xs)) → Fine t)
+          → Fine t
       go true j k = k j
       go false (inl e) k = this t e
       go false (inr j) k = k j
@@ -149,13 +165,13 @@ module _ (v : Tells) (s : State) (r : Recorded v s) where
   says_numbers t Unfit ls h = λ u i. (elim i [ ])
 
   says_list : (t : web.Told) (m : Mark) (ls : List Listed) → Says ts t m (take (size m) ls) → is_unfit m ≡ false
-      → triples (as_told t) ≡ each (triple_by f) (triples_of (take (size m) ls))
-  says_list t (Found n) ls h e = ap (λ z. triples (as_told z)) h.1 ∙ sym (listed_back h.0 h.4) ∙ ap (λ l. each (triple_by f) (triples_of l)) (sym h.3)
+      → triples (as_told t) ≡ renamed (triples_of (take (size m) ls))
+  says_list t (Found n) ls h e = ap (λ z. triples (as_told z)) h.1 ∙ sym (listed_back h.0 h.4) ∙ ap (λ l. renamed (triples_of l)) (sym h.3)
   says_list t Absent ls h e = ap (λ z. triples (as_told z)) h
   says_list t (Broken code place) ls h e = ap (λ z. triples (as_told z)) h
   says_list t Unfit ls h e = clash refl e
 
-  says_nothing : (t : web.Told) (m : Mark) (ls : List Listed) → is_unfit m ≡ true → each (triple_by f) (triples_of (take (size m) ls)) ≡ []
+  says_nothing : (t : web.Told) (m : Mark) (ls : List Listed) → is_unfit m ≡ true → renamed (triples_of (take (size m) ls)) ≡ []
   says_nothing t (Found n) ls e = clash e refl
   says_nothing t Absent ls e = refl
   says_nothing t (Broken code place) ls e = refl
@@ -183,9 +199,11 @@ module _ (v : Tells) (s : State) (r : Recorded v s) where
       k = record { iri = e.iri; mark = e.mark; first = first }
 
       go : (b : Bool) → In t (triples_of (cond b (take (size e.mark) (drop first s.triples)) (listed_in (placed (first + size e.mark) es) s.triples n)))
-          → (In t (triples_of (listed_in (placed (first + size e.mark) es) s.triples n)) → (valid t.subject ≡ true) × (valid t.predicate ≡ true) × (valid t.object ≡ true))
-          → (valid t.subject ≡ true) × (valid t.predicate ≡ true) × (valid t.object ≡ true)
-      go true j g = let h = a (record { iri = e.iri; mark = e.mark; first = first }) (inl refl) in says_numbers (v h.address) e.mark (drop first s.triples) h.says t j
+          → (In t (triples_of (listed_in (placed (first + size e.mark) es) s.triples n)) → Fine t)
+          → Fine t
+      go true j g =
+          let h = a (record { iri = e.iri; mark = e.mark; first = first }) (inl refl) in
+          says_numbers (v h.address) e.mark (drop first s.triples) h.says t j
       go false j g = g j
 
   -- a number that no entry has is not among the fit ones
@@ -207,10 +225,10 @@ module _ (v : Tells) (s : State) (r : Recorded v s) where
 
   -- the list that is kept for a number
   entries_list : (first : ℕ) (es : List Entry) → AllHold first es → Apart (iris_of es) → (n : ℕ) → valid n ≡ true
-      → cond (has by_bytes (f n) (fit ts es)) (triples (tells_by v (f n))) [] ≡ each (triple_by f) (triples_of (listed_in (placed first es) s.triples n))
+      → cond (has by_bytes (f n) (fit ts es)) (at_web (f n)) [] ≡ renamed (triples_of (listed_in (placed first es) s.triples n))
   entries_list first [] a d n h = refl
   entries_list first (e ∷ es) a d n h = by_test (eqb e.iri n) this
-      (λ g. sym (ap (λ b. each (triple_by f) (triples_of (cond b (take (size e.mark) (drop first s.triples)) (listed_in (placed (first + size e.mark) es) s.triples n)))) g
+      (λ g. sym (ap (λ b. renamed (triples_of (cond b (take (size e.mark) (drop first s.triples)) rest))) g
       ∙ sym (other g (is_unfit e.mark) ∙ entries_list (first + size e.mark) es (λ k j. a k (inr j)) d.1 n h)))
     where
       k : Noted
@@ -226,38 +244,43 @@ module _ (v : Tells) (s : State) (r : Recorded v s) where
       differ x y g = grind arith
 
       other : eqb e.iri n ≡ false → (b : Bool)
-          → cond (has by_bytes (f n) (cond b (fit ts es) (f e.iri ∷ fit ts es))) (triples (tells_by v (f n))) [] ≡ cond (has by_bytes (f n) (fit ts es)) (triples (tells_by v (f n))) []
+          → cond (has by_bytes (f n) (cond b (fit ts es) (f e.iri ∷ fit ts es))) (at_web (f n)) []
+          ≡ cond (has by_bytes (f n) (fit ts es)) (at_web (f n)) []
       other g true = refl
       other g false =
-          ap (λ b. cond (b || has by_bytes (f n) (fit ts es)) (triples (tells_by v (f n))) [])
+          ap (λ b. cond (b || has by_bytes (f n) (fit ts es)) (at_web (f n)) [])
           (named_apart ts r.once n e.iri h (entry_valid k whole) ∙ differ e.iri n g)
 
       at : eqb e.iri n ≡ true → f n ≡ term Iri whole.address
       at g = ap f (sym (same_number e.iri n g)) ∙ entry_named k whole
 
-      told : eqb e.iri n ≡ true → triples (tells_by v (f n)) ≡ triples (as_told (v whole.address))
+      told : eqb e.iri n ≡ true → at_web (f n) ≡ triples (as_told (v whole.address))
       told g = ap (λ z. triples (tells_by v z)) (at g)
 
       unfit_or_not : eqb e.iri n ≡ true → (b : Bool) → is_unfit e.mark ≡ b
-          → cond (has by_bytes (f n) (cond b (fit ts es) (f e.iri ∷ fit ts es))) (triples (tells_by v (f n))) [] ≡ each (triple_by f) (triples_of (take (size e.mark) (drop first s.triples)))
+          → cond (has by_bytes (f n) (cond b (fit ts es) (f e.iri ∷ fit ts es))) (at_web (f n)) []
+          ≡ renamed (triples_of (take (size e.mark) (drop first s.triples)))
       unfit_or_not g true u =
-          ap (λ b. cond b (triples (tells_by v (f n))) [])
+          ap (λ b. cond b (at_web (f n)) [])
           (not_fit (first + size e.mark) es (λ k j. a k (inr j)) n h (λ j. d.0 (subst (λ z. In z (iris_of es)) (sym (same_number e.iri n g)) j)))
           ∙ sym (says_nothing (v whole.address) e.mark (drop first s.triples) u)
       unfit_or_not g false u =
-          ap (λ b. cond (b || has by_bytes (f n) (fit ts es)) (triples (tells_by v (f n))) [])
+          ap (λ b. cond (b || has by_bytes (f n) (fit ts es)) (at_web (f n)) [])
           (ap (λ z. by_bytes.same (f n) (f z)) (same_number e.iri n g) ∙ by_bytes_exact.told (f n))
           ∙ told g ∙ says_list (v whole.address) e.mark (drop first s.triples) whole.says u
 
-      this : eqb e.iri n ≡ true → cond (has by_bytes (f n) (fit ts (e ∷ es))) (triples (tells_by v (f n))) [] ≡ each (triple_by f) (triples_of (listed_in (placed first (e ∷ es)) s.triples n))
-      this g = unfit_or_not g (is_unfit e.mark) refl ∙ sym (ap (λ b. each (triple_by f) (triples_of (cond b (take (size e.mark) (drop first s.triples)) rest))) g)
+      this : eqb e.iri n ≡ true → cond (has by_bytes (f n) (fit ts (e ∷ es))) (at_web (f n)) []
+          ≡ renamed (triples_of (listed_in (placed first (e ∷ es)) s.triples n))
+      this g = unfit_or_not g (is_unfit e.mark) refl
+          ∙ sym (ap (λ b. renamed (triples_of (cond b (take (size e.mark) (drop first s.triples)) rest))) g)
 
   -- a fit IRI is that of an entry
   fit_entry : (first : ℕ) (es : List Entry) → AllHold first es → (t : Term) → In t (fit ts es) → (n : ℕ) × (valid n ≡ true) × (t ≡ f n)
   fit_entry first [] a t i = elim i [ ]
   fit_entry first (e ∷ es) a t i = go (is_unfit e.mark) i (λ j. fit_entry (first + size e.mark) es (λ k j. a k (inr j)) t j)
     where
-      go : (b : Bool) → In t (cond b (fit ts es) (f e.iri ∷ fit ts es)) → (In t (fit ts es) → (n : ℕ) × (valid n ≡ true) × (t ≡ f n)) → (n : ℕ) × (valid n ≡ true) × (t ≡ f n)
+      go : (b : Bool) → In t (cond b (fit ts es) (f e.iri ∷ fit ts es))
+          → (In t (fit ts es) → (n : ℕ) × (valid n ≡ true) × (t ≡ f n)) → (n : ℕ) × (valid n ≡ true) × (t ≡ f n)
       go true j g = g j
       go false (inl j) g = let k : Noted = record { iri = e.iri; mark = e.mark; first = first } in (e.iri, entry_valid k (a k (inl refl)), j)
       go false (inr j) g = g j
@@ -281,14 +304,15 @@ module _ (v : Tells) (s : State) (r : Recorded v s) where
     shelf_lists : (n : ℕ) → found_on h n ≡ triples_of (cond (on_shelf h n) (listed_by n) [])
     shelf_lists n = ap₂ (λ ns ls. triples_of (cond (on_shelf h n) (listed_in ns ls n) [])) l.noted l.triples
 
-    pub documents : (n : ℕ) → valid n ≡ true → documents_of v s (f n) ≡ each (triple_by f) (found_on h n)
+    pub documents : (n : ℕ) → valid n ≡ true → documents_of v s (f n) ≡ renamed (found_on h n)
     documents n e = by_test (on_shelf h n)
         (λ i. entries_list 0 s.entries r.entries r.apart n e
-        ∙ sym (ap (each (triple_by f)) (shelf_lists n ∙ ap (λ b. triples_of (cond b (listed_by n) [])) i)))
-        (λ i. nothing (has by_bytes (f n) (fit ts s.entries)) (ap triples (ap (λ b. cond b (as_told (v (f n).bytes)) (tells_by v no_term)) (sym (iri_named n) ∙ i)))
-        ∙ sym (ap (each (triple_by f)) (shelf_lists n ∙ ap (λ b. triples_of (cond b (listed_by n) [])) i)))
+        ∙ sym (ap renamed (shelf_lists n ∙ ap (λ b. triples_of (cond b (listed_by n) [])) i)))
+        (λ i. nothing (has by_bytes (f n) (fit ts s.entries))
+        (ap triples (ap (λ b. cond b (as_told (v (f n).bytes)) (tells_by v no_term)) (sym (iri_named n) ∙ i)))
+        ∙ sym (ap renamed (shelf_lists n ∙ ap (λ b. triples_of (cond b (listed_by n) [])) i)))
       where
-        nothing : (b : Bool) → triples (tells_by v (f n)) ≡ [] → cond b (triples (tells_by v (f n))) [] ≡ []
+        nothing : (b : Bool) → at_web (f n) ≡ [] → cond b (at_web (f n)) [] ≡ []
         nothing true g = g
         nothing false g = refl
 
@@ -312,17 +336,21 @@ module _ (v : Tells) (s : State) (r : Recorded v s) where
         go false j g = let w = g j in (w.0, inr w.1, w.2)
 
     about_by : (a : ℕ) → valid a ≡ true → (ls : List (Triple ℕ)) → AllNumbers ls
-        → about by_bytes (f a) (each (triple_by f) ls) ≡ each (λ t. (f t.0, f t.1)) (about T a ls)
+        → about by_bytes (f a) (renamed ls) ≡ each (λ t. (f t.0, f t.1)) (about T a ls)
     about_by a e [] k = refl
     about_by a e (u ∷ ls) k = go (eqb u.subject a) (named_apart ts r.once u.subject a (k u (inl refl)).0 e) (about_by a e ls (λ t j. k t (inr j)))
       where
-        go : (b : Bool) → by_bytes.same (f u.subject) (f a) ≡ b → about by_bytes (f a) (each (triple_by f) ls) ≡ each (λ t. (f t.0, f t.1)) (about T a ls)
-            → cond (by_bytes.same (f u.subject) (f a)) ((f u.predicate, f u.object) ∷ about by_bytes (f a) (each (triple_by f) ls)) (about by_bytes (f a) (each (triple_by f) ls))
-            ≡ each (λ t. (f t.0, f t.1)) (cond b ((u.predicate, u.object) ∷ about T a ls) (about T a ls))
-        go true g ih = ap (λ b. cond b ((f u.predicate, f u.object) ∷ about by_bytes (f a) (each (triple_by f) ls)) (about by_bytes (f a) (each (triple_by f) ls))) g ∙ ap (◌∷◌ (f u.predicate, f u.object)) ih
-        go false g ih = ap (λ b. cond b ((f u.predicate, f u.object) ∷ about by_bytes (f a) (each (triple_by f) ls)) (about by_bytes (f a) (each (triple_by f) ls))) g ∙ ih
+        more : Bool → List (Term × Term)
+        more b = cond b ((f u.predicate, f u.object) ∷ about by_bytes (f a) (renamed ls)) (about by_bytes (f a) (renamed ls))
 
-    pub contexts : (U : List ℕ) (V : List Term) (a : ℕ) → valid a ≡ true → (graph_in v s V).context (f a) ≡ each (λ t. (f t.0, f t.1)) ((graph_on h U).context a)
+        go : (b : Bool) → by_bytes.same (f u.subject) (f a) ≡ b → about by_bytes (f a) (renamed ls) ≡ each (λ t. (f t.0, f t.1)) (about T a ls)
+            → more (by_bytes.same (f u.subject) (f a))
+            ≡ each (λ t. (f t.0, f t.1)) (cond b ((u.predicate, u.object) ∷ about T a ls) (about T a ls))
+        go true g ih = ap more g ∙ ap (◌∷◌ (f u.predicate, f u.object)) ih
+        go false g ih = ap more g ∙ ih
+
+    pub contexts : (U : List ℕ) (V : List Term) (a : ℕ) → valid a ≡ true
+        → (graph_in v s V).context (f a) ≡ each (λ t. (f t.0, f t.1)) ((graph_on h U).context a)
     contexts U V a e = by_test (on_shelf h a)
         (λ i. ap (λ b. cond b (about by_bytes (f a) (found_in (f a))) []) (sym (iri_named a) ∙ i)
         ∙ ap (about by_bytes (f a)) (documents a e) ∙ about_by a e (found_on h a) (found_valid a)
@@ -345,7 +373,7 @@ module _ (v : Tells) (s : State) (r : Recorded v s) where
     x : Exact T
     x = numbers_exact (on_shelf h)
 
-    listed_terms : (ls : List (Triple ℕ)) → terms_listed (each (triple_by f) ls) ≡ each f (terms_listed ls)
+    listed_terms : (ls : List (Triple ℕ)) → terms_listed (renamed ls) ≡ each f (terms_listed ls)
     listed_terms [] = refl
     listed_terms (u ∷ ls) = ap (λ k. f u.subject ∷ f u.predicate ∷ f u.object ∷ k) (listed_terms ls)
 
@@ -381,11 +409,15 @@ module _ (v : Tells) (s : State) (r : Recorded v s) where
           subst (λ z. has by_bytes z (each f U) ≡ true) (sym a.2) (named_in a.0 (u.all a.0 (inl (in_has x a.0 (terms_in p) a.1))))
       all_met y (inr i) = by_test (has by_bytes i.0 (fit ts s.entries))
           (λ e. let n = fit_entry 0 s.entries r.entries i.0 (has_in by_bytes_exact i.0 (fit ts s.entries) e) in
-          let at : found_in i.0 ≡ each (triple_by f) (found_on h n.0) = ap found_in n.2 ∙ documents n.0 n.1 in
+          let at : found_in i.0 ≡ renamed (found_on h n.0) = ap found_in n.2 ∙ documents n.0 n.1 in
           let k = has_in by_bytes_exact y (terms_listed (found_in i.0)) i.2 in
           let a = each_in f (terms_listed (found_on h n.0)) y (subst (λ z. In y z) (ap terms_listed at ∙ listed_terms (found_on h n.0)) k) in
           subst (λ z. has by_bytes z (each f U) ≡ true) (sym a.2)
-          (named_in a.0 (u.all a.0 (inr (n.0, iri_named n.0 ∙ ap (λ (z : Term). is_iri_kind z.kind) (sym n.2) ∙ i.1, in_has x a.0 (terms_listed (found_on h n.0)) a.1)))))
+          (named_in a.0 (u.all a.0 (inr (
+            n.0,
+            iri_named n.0 ∙ ap (λ (z : Term). is_iri_kind z.kind) (sym n.2) ∙ i.1,
+            in_has x a.0 (terms_listed (found_on h n.0)) a.1,
+          )))))
           (λ e. elim (has_in by_bytes_exact y [] (subst (λ b. has by_bytes y (terms_listed (cond b (triples (tells_by v i.0)) [])) ≡ true) e i.2)) [ ])
 
       met_back : (a : ℕ) → Met T (found_on h) p a → Met by_bytes found_in (pattern_by f p) (f a)
@@ -426,7 +458,9 @@ module _ (v : Tells) (s : State) (r : Recorded v s) where
       closed_in = web_closed by_bytes_exact (documents_of v s) (pattern_by f p) (each f U) universe_by
 
       -- that a number leads back says the same as that a term is the session's
-      same_valid : (t : Term) → leads_back x by_bytes_exact valid f (number_of ts) (number_named ts r.once) (graph_on h U) (graph_in v s (each f U)).context (to_terms (each f U)) closed_in t
+      same_valid : (t : Term)
+          → leads_back x by_bytes_exact valid f (number_of ts) (number_named ts r.once) (graph_on h U) (graph_in v s (each f U)).context
+          (to_terms (each f U)) closed_in t
           ≡ is_known ts t
       same_valid t = by_test (is_known ts t)
           (λ e. ap₂ ◌&&◌ e (ap (λ z. by_bytes.same z t) (named_number ts t (term_positive ts t e)) ∙ by_bytes_exact.told t) ∙ sym e)
@@ -446,9 +480,26 @@ module _ (v : Tells) (s : State) (r : Recorded v s) where
       pub to_numbers : Faithful by_bytes (terms_on h) (is_known s.terms) (number_of s.terms) (graph_in v s (each f U)) (graph_on h U).context
       to_numbers =
           subst (λ w. Faithful by_bytes (terms_on h) w (number_of s.terms) (graph_in v s (each f U)) (graph_on h U).context) (fun_ext same_valid)
-          (faithful_back x by_bytes_exact valid f (number_of ts) (number_named ts r.once) (graph_on h U) (graph_in v s (each f U)).context (to_terms (each f U)) closed_in)
+          (faithful_back x by_bytes_exact valid f (number_of ts) (number_named ts r.once) (graph_on h U) (graph_in v s (each f U)).context
+          (to_terms (each f U)) closed_in)
 
 -- ---- laws
+
+pub numbers_count : NumbersCount
+numbers_count [] zero = refl
+numbers_count [] (suc n) = past n
+  where
+    past : (n : ℕ) → false ≡ ltb 0 (suc n) && leb (suc n) 0
+    past n = grind arith
+numbers_count (t ∷ us) zero = refl
+numbers_count (t ∷ us) (suc zero) = one (length us)
+  where
+    one : (m : ℕ) → true ≡ ltb 0 1 && leb 1 (suc m)
+    one m = grind arith
+numbers_count (t ∷ us) (suc (suc n)) = numbers_count us (suc n) ∙ next n (length us)
+  where
+    next : (n m : ℕ) → ltb 0 (suc n) && leb (suc n) m ≡ ltb 0 (suc (suc n)) && leb (suc (suc n)) (suc m)
+    next n m = grind arith
 
 pub documents_are_the_webs : DocumentsAreTheWebs
 documents_are_the_webs v s h r l n e = documents v s r h l n e

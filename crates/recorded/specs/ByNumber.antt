@@ -1,5 +1,5 @@
 -- The documents at hand by number, against the same by term.
-use Rattle.std.specs.Prelude.{◌≡◌, ℕ, Bool, true, false, cond, List, [], ◌∷◌, map, is_some, unwrap_or}
+use Rattle.std.specs.Prelude.{◌≡◌, ℕ, Bool, true, false, cond, ◌&&◌, List, [], ◌∷◌, map, length, is_some, unwrap_or, nat_le, nat_lt}
 use Rattle.terms.specs.Terms.{Term}
 use Rattle.grammar.specs.Syntax.{Pattern}
 use Rattle.semantics.specs.Terms.{In}
@@ -86,6 +86,10 @@ pub record AtHand (v : Tells) (s : State) (h : Shelf) (p : Pattern ℕ ℕ) (U :
   pub universe : Universe (terms_on h) (found_on h) p U
 
 -- ---- laws
+
+-- Terms are numbered from 1 on.
+abbrev pub NumbersCount : Type 0
+NumbersCount = (ts : List Term) (n : ℕ) → is_number ts n ≡ nat_lt 0 n && nat_le n (length ts)
 
 -- What is found for a number is, under the terms that numbers name, what the Web finds for its term, if that is recorded and fit, and nothing else.
 abbrev pub DocumentsAreTheWebs : Type 0

@@ -8,12 +8,12 @@ use Rattle.question.specs.Asking.{asked}
 use Rattle.judging.specs.Masked.{asks_by}
 use Rattle.semantics.specs.Bags.{Bag}
 use Rattle.semantics.specs.Webs.{terms_in, Universe, by_bytes}
-use Rattle.web.specs.Meaning.{Looked, told, Mark as Cause}
+use Rattle.web.specs.Meaning.{Looked, Told, told, Mark as Cause}
 use Rattle.webs_meant.specs.Finding.{found_of}
 use Rattle.lexicon.specs.Numbering.{number_of}
 use Rattle.shelf.specs.declared.shelf.Shelf.{Shelf}
 use Rattle.shelf.specs.Contexts.{on_shelf}
-use Rattle.store.specs.State.{State, fitting, entered}
+use Rattle.store.specs.State.{State, fitting, entered, numbered as numbers_kept, noted}
 use Rattle.evaluation.specs.declared.entered.Asked.{Asked}
 use Rattle.evaluation.specs.Evaluated.{asks as asks_number, is_marked, Evaluated}
 use Rattle.recorded.specs.Recorded.{Known, Recorded}
@@ -28,9 +28,18 @@ QuestionsAreNumbered = (us : List Term) (q : Question) → asks_by (map (number_
 abbrev pub TermsAreAsked : Type 0
 TermsAreAsked = (us : List Term) (q : Question) → Known us (asked q).terms → Known us (terms_in (asks (asked q)))
 
--- And once they have entered they are the session's.
+-- Once they have entered they are the session's, and the numbers that are kept of them are theirs.
 abbrev pub EnteredTermsAreKnown : Type 0
-EnteredTermsAreKnown = (s : State) (q : Question) → fitting s (asked q).terms ≡ true → Known (entered (asked q).terms s).terms (asked q).terms
+EnteredTermsAreKnown =
+    (s : State) (q : Question) (before : List ℕ) → fitting s (asked q).terms ≡ true
+    → Known (entered (asked q).terms s).terms (asked q).terms
+    × (numbers_kept (asked q).terms s before ≡ map (number_of (entered (asked q).terms s).terms) (asked q).terms)
+
+-- They stay so, whatever is looked up.
+abbrev pub LookupsKeepNumbers : Type 0
+LookupsKeepNumbers =
+    (t : Told) (n : ℕ) (s : State) (ts : List Term) → Known s.terms ts
+    → Known (noted t n s).terms ts × (map (number_of (noted t n s).terms) ts ≡ map (number_of s.terms) ts)
 
 -- Where a judged question was evaluated with the session's numbers of its terms, over the documents at hand, and each IRI that was marked is recorded as found
 -- or absent, the table has the weights and all solutions that the question has over the whole Web.

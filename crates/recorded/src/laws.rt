@@ -1,7 +1,7 @@
-ghost use Rattle.recorded.specs.Questions.{QuestionsAreNumbered, TermsAreAsked, EnteredTermsAreKnown, EvaluatedQuestionsAnswer};
+ghost use Rattle.recorded.specs.Questions.{QuestionsAreNumbered, TermsAreAsked, EnteredTermsAreKnown, LookupsKeepNumbers, EvaluatedQuestionsAnswer};
 ghost use Rattle.recorded.specs.Recorded.{FreshIsRecorded, EnteringKeepsIt, NotingKeepsIt, LookingKeepsIt, RecordIsOfItsAddresses};
 ghost use Rattle.recorded.specs.ByTerm.{NumbersAskTheSame, RecordAnswers, EvaluationAnswers};
-ghost use Rattle.recorded.specs.ByNumber.{DocumentsAreTheWebs, ContextsAreTheWebs, GraphsAreNamesakes};
+ghost use Rattle.recorded.specs.ByNumber.{NumbersCount, DocumentsAreTheWebs, ContextsAreTheWebs, GraphsAreNamesakes};
 
 // From the fresh session on, what a session keeps is what the Web tells, and only at the addresses that are recorded.
 pub fn record_is_kept()
@@ -14,6 +14,7 @@ pub fn record_is_kept()
 
 // By number the documents at hand are those that the Web finds at the recorded IRIs, but for unfit ones.
 pub fn numbers_name_terms()
+    ensures count { NumbersCount }
     ensures documents { DocumentsAreTheWebs }
     ensures contexts { ContextsAreTheWebs }
     ensures graphs { GraphsAreNamesakes }
@@ -35,6 +36,7 @@ pub fn questions_are_numbered()
     ensures numbers { QuestionsAreNumbered }
     ensures terms { TermsAreAsked }
     ensures entered { EnteredTermsAreKnown }
+    ensures later { LookupsKeepNumbers }
 {}
 
 // So what an evaluation answers about it is what it has over the whole Web, where all that was marked is recorded as found or absent.

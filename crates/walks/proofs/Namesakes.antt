@@ -47,7 +47,8 @@ pub each_back : {A B : Type 0} (f : A → B) (g : B → A) (l : List A) → ((a 
 each_back f g [] h = refl
 each_back f g (a ∷ l) h = ap₂ ◌∷◌ (h a (inl refl)) (each_back f g l (λ b i. h b (inr i)))
 
-crowd_by : {A B : Type 0} (f : A → B) (P : A → Type 0) (Q : B → Type 0) → ((a b : A) → P a → P b → f a ≡ f b → a ≡ b) → ((a : A) → P a → Q (f a)) → Crowd P → Crowd Q
+crowd_by : {A B : Type 0} (f : A → B) (P : A → Type 0) (Q : B → Type 0) → ((a b : A) → P a → P b → f a ≡ f b → a ≡ b)
+    → ((a : A) → P a → Q (f a)) → Crowd P → Crowd Q
 crowd_by f P Q h k c = record {
   members = each f c.members;
   apart = apart_each f P h c.members c.each c.apart;
@@ -124,7 +125,8 @@ module _ {A B : Type 0} (f : A → B) (g : B → A) where
       let hd = right_of Back (term_of_end e ++ terms_in_path p) (term_of_end d) h in
       ap₂ (λ a b. line a (path_by g (path_by f p)) b) (end_back e he) (end_back d hd) ∙ ap (λ q. line e q d) (path_back p hp)
   pattern_back (and p q) h = ap₂ and (pattern_back p (left_of Back (terms_in p) (terms_in q) h)) (pattern_back q (right_of Back (terms_in p) (terms_in q) h))
-  pattern_back (union p q) h = ap₂ union (pattern_back p (left_of Back (terms_in p) (terms_in q) h)) (pattern_back q (right_of Back (terms_in p) (terms_in q) h))
+  pattern_back (union p q) h = ap₂ union
+      (pattern_back p (left_of Back (terms_in p) (terms_in q) h)) (pattern_back q (right_of Back (terms_in p) (terms_in q) h))
   pattern_back (opt p q) h = ap₂ opt (pattern_back p (left_of Back (terms_in p) (terms_in q) h)) (pattern_back q (right_of Back (terms_in p) (terms_in q) h))
 
 -- ---- sub-questions
@@ -342,7 +344,8 @@ module _ {A B : Type 0} {T : Terms A} (x : Exact T) {S : Terms B} (y : Exact S) 
       let r = each_in f (terms_in p) b (subst (λ l. In b l) (terms_by f p) i) in
       subst (λ z. named z ≡ true) (sym r.2) (is_named r.0 (h r.0 r.1))
 
-  crowds_back : (p : Pattern A ℕ) → ((t : A) → In t (terms_in p) → valid t ≡ true) → TooMany S (graph_by f G context) (whole (pattern_by f p)) → TooMany T G (whole p)
+  crowds_back : (p : Pattern A ℕ) → ((t : A) → In t (terms_in p) → valid t ≡ true)
+      → TooMany S (graph_by f G context) (whole (pattern_by f p)) → TooMany T G (whole p)
   crowds_back p h t =
       subst (λ K. TooMany T K (whole p)) graph_back
       (subst (λ q. TooMany T (graph_by back (graph_by f G context) G.context) (whole q)) (pattern_back f back p (λ t i. leads t (h t i)))
