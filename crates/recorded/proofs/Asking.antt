@@ -13,17 +13,18 @@ use Rattle.semantics.specs.Graphs.{Graph}
 use Rattle.semantics.specs.Meaning.{meaning, weight_in, possible}
 use Rattle.semantics.specs.Webs.{Triple, terms_in, graph_of, Universe, is_iri_kind, by_bytes}
 use Rattle.semantics.proofs.Bytes.{by_bytes_exact}
-use Rattle.semantics.proofs.Lists.{clash, any_in, in_has}
+use Rattle.semantics.proofs.Lists.{clash, not_true, any_in, in_has}
 use Rattle.semantics.proofs.Possible.{in_rows, rows_possible}
 use Rattle.semantics.proofs.Proved.{solutions_are_possible}
-use Rattle.walks.specs.Crowds.{TooMany}
+use Rattle.semantics.specs.Laws.{Apart as ApartRows}
+use Rattle.walks.specs.Crowds.{Apart, TooMany}
 use Rattle.walks.specs.Needs.{needs}
 use Rattle.walks.specs.Plans.{Needed}
 use Rattle.walks.specs.Promises.{whole}
 use Rattle.walks.specs.Shelves.{triples, readable, lists_of, Settled, absent}
 use Rattle.walks.specs.Translated.{each, slot_by, row_by, pattern_by, bag_by, Faithful, Translates}
 use Rattle.walks.proofs.Listed.{needs_are_listed}
-use Rattle.walks.proofs.Namesakes.{each_in, pattern_back, terms_by, crowds_are_translated}
+use Rattle.walks.proofs.Namesakes.{in_each, each_in, pattern_back, terms_by, crowds_are_translated}
 use Rattle.walks.proofs.Recorded.{record_suffices}
 use Rattle.walks.proofs.Translating.{SlotOk, RowOk, judged_by_lem, given_ok, possible_fine, names_are_free}
 use Rattle.web.specs.Agreement.{Tells}
@@ -45,7 +46,20 @@ use Rattle.evaluation.proofs.Defined.{numbers_exact, shelves_have_universes}
 use Rattle.recorded.specs.Recorded.{Says, Recorded}
 use Rattle.recorded.specs.ByNumber.{named, is_number, as_told, tells_by, is_unfit, fit, documents_of, graph_in, graph_on}
 use Rattle.recorded.specs.ByTerm.{numbered, Asked, SameByNumber, NumbersAskTheSame, answers, Answered, OverTheWeb, RecordAnswers, EvaluationAnswers}
+use Rattle.recorded.proofs.Rows.{possible_ended, row_is}
 use Rattle.recorded.proofs.Naming.{named_number, number_is, number_named, entry_named, universe_by, to_terms, closed_on, closed_in}
+
+-- ---- the rows of a table
+
+row_entry : (L : Bag ℕ ℕ) (r : Row ℕ) → In r (rows_in L) → (u : ℕ) × In (r, u) L
+row_entry [] r i = elim i [ ]
+row_entry (e ∷ L) r (inl i) = (e.1, inl (ap (λ z. (z, e.1)) i))
+row_entry (e ∷ L) r (inr i) = let u = row_entry L r i in (u.0, inr u.1)
+
+entry_row : (L : Bag ℕ ℕ) (r : Row ℕ) (u : ℕ) → In (r, u) L → In r (rows_in L)
+entry_row [] r u i = elim i [ ]
+entry_row (e ∷ L) r u (inl i) = inl (ap (λ z. z.0) i)
+entry_row (e ∷ L) r u (inr i) = inr (entry_row L r u i)
 
 -- ---- the weight of a translated row
 
@@ -119,13 +133,17 @@ module _ (v : Tells) (s : State) (h : Shelf) (p : Pattern Term ℕ) (U : List �
   faithful : Faithful T by_bytes (is_number s.terms) (named s.terms) G H.context
   faithful = to_terms v s r h asked.lends q q_valid U asked.universe V
 
-  pub asked_closed : (needs by_bytes H (whole p) ≡ each f (needs T G (whole q))) → (i : Term) → Needed by_bytes H (whole p) i
-      → (n : ℕ) × Needed T G (whole q) n × (i ≡ f n)
-  asked_closed e i d =
+  pub asked_needed : needs by_bytes H (whole p) ≡ each f (needs T G (whole q))
+      → (i : Term) → Needed by_bytes H (whole p) i ↔ ((n : ℕ) × Needed T G (whole q) n × (i ≡ f n))
+  asked_needed e i =
       let cH = closed_in v s r h asked.lends q q_valid U asked.universe in
       let cG = closed_on v s r h asked.lends q q_valid U asked.universe in
-      let n = each_in f (needs T G (whole q)) i (subst (λ l. In i l) e ((needs_are_listed by_bytes by_bytes_exact H cH (whole p) i).0 d)) in
-      (n.0, (needs_are_listed T x G cG (whole q) n.0).1 n.1, n.2)
+      let there = needs_are_listed by_bytes by_bytes_exact H cH (whole p) i in (
+        λ d. (let n = each_in f (needs T G (whole q)) i (subst (λ l. In i l) e (there.0 d)) in
+            (n.0, (needs_are_listed T x G cG (whole q) n.0).1 n.1, n.2)),
+        λ n. there.1 (subst (λ l. In i l) (sym e) (subst (λ z. In z (each f (needs T G (whole q)))) (sym n.2)
+            (in_each f (needs T G (whole q)) n.0 ((needs_are_listed T x G cG (whole q) n.0).0 n.1)))),
+      )
 
   translates : Translates T by_bytes f G H q
   translates = names_are_free T x by_bytes (is_number ts) f G H.context faithful q q_valid
@@ -139,6 +157,7 @@ module _ (v : Tells) (s : State) (h : Shelf) (p : Pattern Term ℕ) (U : List �
   same_asked = record {
     verdict = λ m. judged_by_lem (number_of ts) p m;
     needs = ap (λ z. needs by_bytes H (whole z)) (sym back) ∙ translates.needs;
+    needed = asked_needed (ap (λ z. needs by_bytes H (whole z)) (sym back) ∙ translates.needs);
     rows = ap (possible by_bytes H) (sym back) ∙ translates.rows;
     weights = λ k m g.
         ap (λ z. weight by_bytes (codes k) (row_by f m) (meaning by_bytes H (codes k) z)) (sym back)
@@ -150,6 +169,27 @@ module _ (v : Tells) (s : State) (h : Shelf) (p : Pattern Term ℕ) (U : List �
         (closed_on v s r h asked.lends q q_valid U asked.universe) (closed_in v s r h asked.lends q q_valid U asked.universe) q q_valid);
     gives = λ m i. given_valid T by_bytes (is_number ts) f faithful.apart m (possible_fine T x by_bytes (is_number ts) f G H.context faithful q m i);
   }
+
+  -- rows that are told apart by number are told apart by term
+  pub once_asked : (L : Bag ℕ ℕ) → ((m : Row ℕ) → In m (rows_in L) → In m (possible T G q)) → Apart (rows_in L) → ApartRows by_bytes (bag_by f L)
+  once_asked [] g d = tt
+  once_asked (e ∷ L) g d = (other, once_asked L (λ m i. g m (inr i)) d.1)
+    where
+      fine : (m : Row ℕ) → In m (possible T G q) → RowOk T by_bytes (is_number ts) f faithful.apart m
+      fine m i = possible_fine T x by_bytes (is_number ts) f G H.context faithful q m i
+
+      differ : (m : Row ℕ) → In m (rows_in L) → same_row by_bytes (row_by f e.0) (row_by f m) ≡ false
+      differ m i =
+          let pe = g e.0 (inl refl) in
+          let pm = g m (inr i) in
+          not_true (same_row by_bytes (row_by f e.0) (row_by f m)) (λ z.
+          d.0 (subst (λ w. In w (rows_in L)) (sym (row_is x e.0 m (possible_ended T G q e.0 pe) (possible_ended T G q m pm)
+          (sym (same_row_by T by_bytes (is_number ts) f faithful.apart e.0 m (fine e.0 pe) (fine m pm)) ∙ z))) i))
+
+      other : (c : Row Term × ℕ) → In c (bag_by f L) → same_row by_bytes (row_by f e.0) c.0 ≡ false
+      other c i =
+          let k = each_in (λ z. (row_by f z.0, z.1)) L c i in
+          ap (λ z. same_row by_bytes (row_by f e.0) z.0) k.2 ∙ differ k.0.0 (entry_row L k.0.0 k.0.1 k.1)
 
   -- ---- over the whole Web
 
@@ -209,7 +249,7 @@ module _ (v : Tells) (s : State) (h : Shelf) (p : Pattern Term ℕ) (U : List �
           ∙ record_suffices by_bytes by_bytes_exact k l (tells_by v) (fit ts s.entries) p j W V
           (subst (λ z. Universe by_bytes z p W) e w)
           (subst (λ z. Universe by_bytes (documents_of v s) z V) back (universe_by v s r h asked.lends q q_valid U asked.universe))
-          (λ i d. let n = asked_closed same_asked.needs i d in
+          (λ i d. let n = (same_asked.needed i).0 d in
           subst (Settled by_bytes (tells_by v) (fit ts s.entries)) (sym n.2) (settled n.0 (all n.0 n.1))) m
 
 -- ---- laws
@@ -231,16 +271,6 @@ pub record_answers : {C : Type 0} → RecordAnswers C
 record_answers mark meaning s h p U a j all W w k l =
     over_the_web (λ iri. told mark (meaning iri)) s h p U a j all (found_of meaning) (found_told mark meaning) W w k l
 
-row_entry : (L : Bag ℕ ℕ) (r : Row ℕ) → In r (rows_in L) → (u : ℕ) × In (r, u) L
-row_entry [] r i = elim i [ ]
-row_entry (e ∷ L) r (inl i) = (e.1, inl (ap (λ z. (z, e.1)) i))
-row_entry (e ∷ L) r (inr i) = let u = row_entry L r i in (u.0, inr u.1)
-
-entry_row : (L : Bag ℕ ℕ) (r : Row ℕ) (u : ℕ) → In (r, u) L → In r (rows_in L)
-entry_row [] r u i = elim i [ ]
-entry_row (e ∷ L) r u (inl i) = inl (ap (λ z. z.0) i)
-entry_row (e ∷ L) r u (inr i) = inr (entry_row L r u i)
-
 pub evaluation_answers : {C : Type 0} → EvaluationAnswers C
 evaluation_answers mark meaning s h p r l n j k w marks table given_table all W web_universe =
     let u = shelves_have_universes h (numbered s.terms p) in
@@ -250,6 +280,7 @@ evaluation_answers mark meaning s h p r l n j k w marks table given_table all W 
     (λ i d. all i d.iri ((t.needs i d.iri).1 d)) W web_universe k w in
     let same = numbers_ask_the_same (λ iri. told mark (meaning iri)) s h p u.0 a in
     record {
+      once = once_asked (λ iri. told mark (meaning iri)) s h p u.0 a table (λ m. (t.rows m).0) t.once;
       weights = λ m c i. t.weights m c i ∙ sym (o.weights m (same.gives m ((t.rows m).0 (entry_row table m c i))));
       solutions = λ m g. (let y = o.solutions m g in let c = row_entry table y.0 ((t.rows y.0).1 y.1) in (y.0, c.0, c.1, y.2));
     }

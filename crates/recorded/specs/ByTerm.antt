@@ -10,11 +10,12 @@ use Rattle.semantics.specs.Bags.{Bag}
 use Rattle.semantics.specs.Graphs.{Graph}
 use Rattle.semantics.specs.Meaning.{weight_in, possible}
 use Rattle.semantics.specs.Webs.{Triple, terms_in, graph_of, Universe, by_bytes}
+use Rattle.semantics.specs.Laws.{Apart}
 use Rattle.walks.specs.Crowds.{TooMany}
 use Rattle.walks.specs.Needs.{needs}
 use Rattle.walks.specs.Plans.{Needed}
 use Rattle.walks.specs.Promises.{whole}
-use Rattle.walks.specs.Translated.{each, row_by, pattern_by}
+use Rattle.walks.specs.Translated.{each, row_by, pattern_by, bag_by}
 use Rattle.web.specs.Agreement.{Tells}
 use Rattle.web.specs.Meaning.{Looked, told, Mark as Cause}
 use Rattle.webs_meant.specs.Finding.{found_of}
@@ -53,6 +54,7 @@ pub record Asked (v : Tells) (s : State) (h : Shelf) (p : Pattern Term ℕ) (U :
 pub record SameByNumber (s : State) (h : Shelf) (p : Pattern Term ℕ) (G : Graph ℕ) (H : Graph Term) : Type 0 where
   pub verdict : (m : ℕ) → judged (numbered s.terms p) m ≡ judged p m
   pub needs : needs by_bytes H (whole p) ≡ each (named s.terms) (needs (terms_on h) G (whole (numbered s.terms p)))
+  pub needed : (i : Term) → Needed by_bytes H (whole p) i ↔ ((n : ℕ) × Needed (terms_on h) G (whole (numbered s.terms p)) n × (i ≡ named s.terms n))
   pub rows : possible by_bytes H p ≡ each (row_named s.terms) (possible (terms_on h) G (numbered s.terms p))
   pub weights : (k : Kind) (r : Row ℕ) → GivesNumbers s.terms r
       → weight_in by_bytes H k p (row_named s.terms r) ≡ weight_in (terms_on h) G k (numbered s.terms p) r
@@ -99,8 +101,9 @@ RecordAnswers C =
 
 -- ---- what an evaluation answers, by term
 
--- a table of rows of numbers has the weights and all solutions that a question has over the whole Web
+-- A table of rows of numbers has, by term, no row twice, and the weights and all solutions that a question has over the whole Web.
 pub record TableOfTheWeb (k : Kind) (found : Term → List (Triple Term)) (W : List Term) (s : State) (p : Pattern Term ℕ) (table : Bag ℕ ℕ) : Type 0 where
+  pub once : Apart by_bytes (bag_by (named s.terms) table)
   pub weights : (r : Row ℕ) (u : ℕ) → In (r, u) table → u ≡ weight_in by_bytes (graph_of by_bytes found W) k p (row_named s.terms r)
   pub solutions : (m : Row Term) → (weight_in by_bytes (graph_of by_bytes found W) k p m ≢ k.zero)
       → (r : Row ℕ) × (u : ℕ) × In (r, u) table × (same_row by_bytes m (row_named s.terms r) ≡ true)
