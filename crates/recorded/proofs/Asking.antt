@@ -1,5 +1,5 @@
 -- What is asked by number is what is asked by term.
-use Rattle.std.proofs.Common.{◌≡◌, ℕ, zero, suc, ◌+◌, ◌↔◌, Bool, true, false, cond, ◌&&◌, List, [], ◌∷◌, Some, None, Option, sym, refl, ap, ◌∙◌, subst, ap₂, inl, inr}
+use Rattle.std.proofs.Common.{◌≡◌, ℕ, zero, suc, ◌+◌, ◌↔◌, Bool, true, false, cond, ◌&&◌, List, [], ◌∷◌, Some, None, Option, Ok, Err, Result, sym, refl, ap, ◌∙◌, subst, ap₂, inl, inr}
 use mathlib.Core.Path.{fun_ext}
 use Rattle.terms.specs.Terms.{Term}
 use Rattle.weights.specs.Kinds.{Kind, Lawful}
@@ -23,6 +23,7 @@ use Rattle.walks.specs.Plans.{Needed}
 use Rattle.walks.specs.Promises.{whole}
 use Rattle.walks.specs.Shelves.{triples, readable, lists_of, Settled, absent}
 use Rattle.walks.specs.Translated.{each, slot_by, row_by, pattern_by, bag_by, Faithful, Translates}
+use Rattle.walks.proofs.Beside.{nothing_else_matters}
 use Rattle.walks.proofs.Listed.{needs_are_listed}
 use Rattle.walks.proofs.Namesakes.{in_each, each_in, pattern_back, terms_by, crowds_are_translated}
 use Rattle.walks.proofs.Recorded.{record_suffices}
@@ -41,11 +42,12 @@ use Rattle.shelf.specs.Contexts.{size, on_shelf}
 use Rattle.store.specs.declared.record.Entry.{Entry}
 use Rattle.store.specs.State.{State, placed}
 use Rattle.answering.specs.Promises.{rows_in}
-use Rattle.evaluation.specs.Evaluated.{terms_on}
+use Rattle.tables.specs.declared.entry.TooMany.{TooMany as Refusal}
+use Rattle.evaluation.specs.Evaluated.{found_on, terms_on, Tells as Answer}
 use Rattle.evaluation.proofs.Defined.{numbers_exact, shelves_have_universes}
 use Rattle.recorded.specs.Recorded.{Says, Recorded}
 use Rattle.recorded.specs.ByNumber.{named, is_number, as_told, tells_by, is_unfit, fit, documents_of, graph_in, graph_on}
-use Rattle.recorded.specs.ByTerm.{numbered, Asked, SameByNumber, NumbersAskTheSame, answers, Answered, OverTheWeb, RecordAnswers, EvaluationAnswers}
+use Rattle.recorded.specs.ByTerm.{numbered, Asked, SameByNumber, NumbersAskTheSame, answers, Answered, OverTheWeb, RecordAnswers, EvaluationAnswers, SaysTooMany, EvaluationCounts}
 use Rattle.recorded.proofs.Rows.{possible_ended, row_is}
 use Rattle.recorded.proofs.Naming.{named_number, number_is, number_named, entry_named, universe_by, to_terms, closed_on, closed_in}
 
@@ -191,6 +193,16 @@ module _ (v : Tells) (s : State) (h : Shelf) (p : Pattern Term ℕ) (U : List �
           let k = each_in (λ z. (row_by f z.0, z.1)) L c i in
           ap (λ z. same_row by_bytes (row_by f e.0) z.0) k.2 ∙ differ k.0.0 (entry_row L k.0.0 k.0.1 k.1)
 
+  -- the terms of the documents that are recorded
+  universe_asked : Universe by_bytes (documents_of v s) p V
+  universe_asked = subst (λ z. Universe by_bytes (documents_of v s) z V) back (universe_by v s r h asked.lends q q_valid U asked.universe)
+
+  pub crowds_asked : judged p 0 ≡ true → (W : List Term) → Universe by_bytes (documents_of v s) p W
+      → TooMany T G (whole q) ↔ TooMany by_bytes (graph_in v s W) (whole p)
+  crowds_asked j W w =
+      let same = (nothing_else_matters by_bytes by_bytes_exact (documents_of v s) (documents_of v s) (λ i. inl refl) p j V W universe_asked w (λ i n. refl)).crowds in
+      (λ t. same.1 (same_asked.crowds.0 t), λ t. same_asked.crowds.1 (same.0 t))
+
   -- ---- over the whole Web
 
   entry_placed : (first : ℕ) (es : List Entry) (e : Entry) → In e es → (k : Noted) × In k (placed first es) × (k.iri ≡ e.iri) × (k.mark ≡ e.mark)
@@ -248,7 +260,7 @@ module _ (v : Tells) (s : State) (h : Shelf) (p : Pattern Term ℕ) (U : List �
           ap (λ z. weight_in by_bytes (graph_of by_bytes z W) k p m) e
           ∙ record_suffices by_bytes by_bytes_exact k l (tells_by v) (fit ts s.entries) p j W V
           (subst (λ z. Universe by_bytes z p W) e w)
-          (subst (λ z. Universe by_bytes (documents_of v s) z V) back (universe_by v s r h asked.lends q q_valid U asked.universe))
+          universe_asked
           (λ i d. let n = (same_asked.needed i).0 d in
           subst (Settled by_bytes (tells_by v) (fit ts s.entries)) (sym n.2) (settled n.0 (all n.0 n.1))) m
 
@@ -284,3 +296,16 @@ evaluation_answers mark meaning s h p r l n j k w marks table given_table all W 
       weights = λ m c i. t.weights m c i ∙ sym (o.weights m (same.gives m ((t.rows m).0 (entry_row table m c i))));
       solutions = λ m g. (let y = o.solutions m g in let c = row_entry table y.0 ((t.rows y.0).1 y.1) in (y.0, c.0, c.1, y.2));
     }
+
+pub evaluation_counts : EvaluationCounts
+evaluation_counts v s h p r l n j k result marks table given_table W w = go result (given_table u.0 u.1)
+  where
+    u : (U : List ℕ) × Universe (terms_on h) (found_on h) (numbered s.terms p) U
+    u = shelves_have_universes h (numbered s.terms p)
+
+    counts : TooMany (terms_on h) (graph_on h u.0) (whole (numbered s.terms p)) ↔ TooMany by_bytes (graph_in v s W) (whole p)
+    counts = crowds_asked v s h p u.0 (record { recorded = r; lends = l; known = n; universe = u.1 }) j W w
+
+    go : (o : Result (Unit {0}) Refusal) → Answer k h (graph_on h u.0) (numbered s.terms p) o marks table → SaysTooMany o (TooMany by_bytes (graph_in v s W) (whole p))
+    go (Err e) t = counts.0 t
+    go (Ok c) t = λ z. t.0 (counts.1 z)

@@ -1,5 +1,5 @@
 -- A question by number over the documents at hand, against the same question by term over the whole Web.
-use Rattle.std.specs.Prelude.{◌≡◌, ℕ, Bool, true, false, ◌↔◌, List, Some, Ok, ◌≢◌}
+use Rattle.std.specs.Prelude.{◌≡◌, ℕ, Bool, true, false, ◌↔◌, List, Some, Ok, Err, Result, ◌≢◌}
 use Rattle.terms.specs.Terms.{Term}
 use Rattle.weights.specs.Kinds.{Kind, Lawful}
 use Rattle.grammar.specs.Syntax.{Pattern}
@@ -26,9 +26,10 @@ use Rattle.shelf.specs.declared.shelf.Shelf.{Shelf}
 use Rattle.shelf.specs.Contexts.{on_shelf}
 use Rattle.store.specs.declared.record.Entry.{Entry}
 use Rattle.store.specs.State.{State}
+use Rattle.tables.specs.declared.entry.TooMany.{TooMany as Refusal}
 use Rattle.evaluation.specs.Evaluated.{found_on, terms_on, is_marked, Evaluated}
 use Rattle.recorded.specs.Recorded.{Known, Recorded}
-use Rattle.recorded.specs.ByNumber.{named, is_number, graph_in, Lends, graph_on}
+use Rattle.recorded.specs.ByNumber.{named, is_number, documents_of, graph_in, Lends, graph_on}
 
 -- a question by term, by the session's numbers
 abbrev pub numbered : List Term → Pattern Term ℕ → Pattern ℕ ℕ
@@ -116,3 +117,15 @@ EvaluationAnswers C =
     → (k : Kind) → Lawful k → (marks : List Bool) (table : Bag ℕ ℕ) → Evaluated k h (numbered s.terms p) (Ok tt) marks table
     → ((n : ℕ) → on_shelf h n ≡ true → is_marked marks n → Answered s n)
     → (W : List Term) → Universe by_bytes (found_of meaning) p W → TableOfTheWeb k (found_of meaning) W s p table
+
+-- too many, or not
+abbrev pub SaysTooMany : Result (Unit {0}) Refusal → Type 0 → Type 0
+SaysTooMany (Err e) P = P
+SaysTooMany (Ok u) P = P → ⊥
+
+-- An evaluation says too many exactly where the question has too many, by term, over the documents of the record, however their terms are listed.
+abbrev pub EvaluationCounts : Type 0
+EvaluationCounts =
+    (v : Tells) (s : State) (h : Shelf) (p : Pattern Term ℕ) → Recorded v s → Lends s h → Known s.terms (terms_in p) → judged p 0 ≡ true
+    → (k : Kind) (r : Result (Unit {0}) Refusal) (marks : List Bool) (table : Bag ℕ ℕ) → Evaluated k h (numbered s.terms p) r marks table
+    → (V : List Term) → Universe by_bytes (documents_of v s) p V → SaysTooMany r (TooMany by_bytes (graph_in v s V) (whole p))

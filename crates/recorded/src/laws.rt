@@ -1,6 +1,6 @@
 ghost use Rattle.recorded.specs.Questions.{QuestionsAreNumbered, TermsAreAsked, EnteredTermsAreKnown, LookupsKeepNumbers, EvaluatedQuestionsAnswer};
 ghost use Rattle.recorded.specs.Recorded.{FreshIsRecorded, EnteringKeepsIt, NotingKeepsIt, LookingKeepsIt, RecordIsOfItsAddresses};
-ghost use Rattle.recorded.specs.ByTerm.{NumbersAskTheSame, RecordAnswers, EvaluationAnswers};
+ghost use Rattle.recorded.specs.ByTerm.{NumbersAskTheSame, RecordAnswers, EvaluationAnswers, EvaluationCounts};
 ghost use Rattle.recorded.specs.ByNumber.{NumbersCount, DocumentsAreTheWebs, ContextsAreTheWebs, GraphsAreNamesakes};
 
 // From the fresh session on, what a session keeps is what the Web tells, and only at the addresses that are recorded.
@@ -20,9 +20,10 @@ pub fn numbers_name_terms()
     ensures graphs { GraphsAreNamesakes }
 {}
 
-// A question by number, over the documents at hand, asks what it asks by term over those of the record.
+// A question by number, over the documents at hand, asks what it asks by term over those of the record; so an evaluation says too many exactly where it has.
 pub fn numbers_ask_the_same()
-    ensures { NumbersAskTheSame }
+    ensures questions { NumbersAskTheSame }
+    ensures counts { EvaluationCounts }
 {}
 
 // Where all that it needs is recorded as found or absent, its rows of numbers are, by term, what it has over the whole Web; and so is the table of an evaluation.
