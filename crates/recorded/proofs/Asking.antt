@@ -200,7 +200,8 @@ module _ (v : Tells) (s : State) (h : Shelf) (p : Pattern Term ℕ) (U : List �
   pub crowds_asked : judged p 0 ≡ true → (W : List Term) → Universe by_bytes (documents_of v s) p W
       → TooMany T G (whole q) ↔ TooMany by_bytes (graph_in v s W) (whole p)
   crowds_asked j W w =
-      let same = (nothing_else_matters by_bytes by_bytes_exact (documents_of v s) (documents_of v s) (λ i. inl refl) p j V W universe_asked w (λ i n. refl)).crowds in
+      let found = documents_of v s in
+      let same = (nothing_else_matters by_bytes by_bytes_exact found found (λ i. inl refl) p j V W universe_asked w (λ i n. refl)).crowds in
       (λ t. same.1 (same_asked.crowds.0 t), λ t. same_asked.crowds.1 (same.0 t))
 
   -- ---- over the whole Web
@@ -306,6 +307,7 @@ evaluation_counts v s h p r l n j k result marks table given_table W w = go resu
     counts : TooMany (terms_on h) (graph_on h u.0) (whole (numbered s.terms p)) ↔ TooMany by_bytes (graph_in v s W) (whole p)
     counts = crowds_asked v s h p u.0 (record { recorded = r; lends = l; known = n; universe = u.1 }) j W w
 
-    go : (o : Result (Unit {0}) Refusal) → Answer k h (graph_on h u.0) (numbered s.terms p) o marks table → SaysTooMany o (TooMany by_bytes (graph_in v s W) (whole p))
+    go : (o : Result (Unit {0}) Refusal) → Answer k h (graph_on h u.0) (numbered s.terms p) o marks table
+        → SaysTooMany o (TooMany by_bytes (graph_in v s W) (whole p))
     go (Err e) t = counts.0 t
     go (Ok c) t = λ z. t.0 (counts.1 z)

@@ -12,7 +12,7 @@ use Rattle.semantics.proofs.Lists.{clash, in_either}
 use Rattle.walks.specs.Crowds.{Apart}
 use Rattle.web.specs.Agreement.{Tells, Alike}
 use Rattle.web.specs.Laws.{is_kind_iri, lawful_iri, lawful_triple, lawful_triples}
-use Rattle.web.specs.Meaning.{Triple, Told, found, absent, broken, triples as triples_told}
+use Rattle.web.specs.Meaning.{Triple, Told, found, absent, broken, triples as triples_told, told}
 use Rattle.lexicon.specs.Numbering.{term, number_of, term_at, enter, enter_all}
 use Rattle.lexicon.proofs.Numbers.{Once, number_front, number_entered, number_stays, enter_new, enter_there, enter_all_front, once_all}
 use Rattle.shelf.specs.declared.items.Listed.{Listed}
@@ -23,7 +23,7 @@ use Rattle.shelf.specs.Contexts.{size}
 use Rattle.store.specs.declared.record.Entry.{Entry}
 use Rattle.store.specs.State.{State, fits, fitting, parts_of, listed, noted, marked, shelved, placed, total}
 use Rattle.store.specs.Looking.{address_in, address_of, full, looked_at}
-use Rattle.recorded.specs.Recorded.{Known, Says, kept_for, Holds, iris_of, Recorded, FreshIsRecorded, EnteringKeepsIt, NotingKeepsIt, LookingKeepsIt, RecordIsOfItsAddresses}
+use Rattle.recorded.specs.Recorded.{Known, Says, kept_for, Holds, iris_of, Recorded, FreshIsRecorded, EnteringKeepsIt, TellingIsLawful, NotingKeepsIt, LookingKeepsIt, RecordIsOfItsAddresses}
 
 -- ---- terms by number
 
@@ -233,6 +233,11 @@ entering_keeps v s ts h r = go (fitting s ts)
     go : (b : Bool) → Recorded v (cond b (record { terms = all; entries = s.entries; triples = s.triples }) s)
     go true = more
     go false = r
+
+pub telling_is_lawful : {C : Type 0} → TellingIsLawful C
+telling_is_lawful mark x (found ts) h = record { no_iri = λ e. ap (told mark) (h.no_iri e); few = h.few; terms = h.terms }
+telling_is_lawful mark x absent h = record { no_iri = λ e. refl; few = h.few; terms = h.terms }
+telling_is_lawful mark x (broken c) h = record { no_iri = λ e. ap (told mark) (h.no_iri e); few = h.few; terms = h.terms }
 
 pub noting_keeps : NotingKeepsIt
 noting_keeps v w s n x a new r = go (v x) refl

@@ -6,7 +6,7 @@ use Rattle.semantics.specs.Terms.{In}
 use Rattle.walks.specs.Crowds.{Apart}
 use Rattle.web.specs.Agreement.{Tells, Agree}
 use Rattle.web.specs.Laws.{Lawful}
-use Rattle.web.specs.Meaning.{Triple, Told, found, absent, broken}
+use Rattle.web.specs.Meaning.{Triple, Looked, Told, found, absent, broken, told, Mark as Cause}
 use Rattle.lexicon.specs.Numbering.{number_of, term_at}
 use Rattle.shelf.specs.declared.items.Listed.{Listed}
 use Rattle.shelf.specs.declared.items.Mark.{Mark}
@@ -63,6 +63,10 @@ FreshIsRecorded = (v : Tells) → Recorded v fresh
 -- the terms of a question enter
 abbrev pub EnteringKeepsIt : Type 0
 EnteringKeepsIt = (v : Tells) (s : State) (ts : List Term) → ((t : Term) → In t ts → lawful_term t ≡ true) → Recorded v s → Recorded v (entered ts s)
+
+-- What a make's lawful meaning tells is lawful, with its causes as two numbers.
+abbrev pub TellingIsLawful : Type 0 → Type 0
+TellingIsLawful C = (mark : C → Cause) (x : List ℕ) (l : Looked C) → Lawful x l → Lawful x (told mark l)
 
 -- what a lawful Web tells of an IRI of the session is noted, where that is not recorded yet
 abbrev pub NotingKeepsIt : Type 0

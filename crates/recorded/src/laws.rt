@@ -1,5 +1,5 @@
 ghost use Rattle.recorded.specs.Questions.{QuestionsAreNumbered, TermsAreAsked, EnteredTermsAreKnown, LookupsKeepNumbers, EvaluatedQuestionsAnswer};
-ghost use Rattle.recorded.specs.Recorded.{FreshIsRecorded, EnteringKeepsIt, NotingKeepsIt, LookingKeepsIt, RecordIsOfItsAddresses};
+ghost use Rattle.recorded.specs.Recorded.{FreshIsRecorded, EnteringKeepsIt, TellingIsLawful, NotingKeepsIt, LookingKeepsIt, RecordIsOfItsAddresses};
 ghost use Rattle.recorded.specs.ByTerm.{NumbersAskTheSame, RecordAnswers, EvaluationAnswers, EvaluationCounts};
 ghost use Rattle.recorded.specs.ByNumber.{NumbersCount, DocumentsAreTheWebs, ContextsAreTheWebs, GraphsAreNamesakes};
 
@@ -10,6 +10,11 @@ pub fn record_is_kept()
     ensures noting { NotingKeepsIt }
     ensures looking { LookingKeepsIt }
     ensures addresses { RecordIsOfItsAddresses }
+{}
+
+// Every make's Web can be told by two numbers for its causes.
+pub fn telling_is_lawful<C>()
+    ensures { TellingIsLawful C }
 {}
 
 // By number the documents at hand are those that the Web finds at the recorded IRIs, but for unfit ones.
@@ -26,7 +31,7 @@ pub fn numbers_ask_the_same()
     ensures counts { EvaluationCounts }
 {}
 
-// Where all that it needs is recorded as found or absent, its rows of numbers are, by term, what it has over the whole Web; and so is the table of an evaluation.
+// Where all that it needs is recorded as found or absent, its rows of numbers are, by term, what it has over the whole Web; and so is an evaluation's table.
 pub fn record_answers<C>()
     ensures web { RecordAnswers C }
     ensures evaluation { EvaluationAnswers C }
