@@ -67,7 +67,7 @@ all_at P [] d h x i = elim i [ ]
 all_at P (y ∷ xs) d h x (inl e) = subst P (sym e) (h zero)
 all_at P (y ∷ xs) d h x (inr i) = all_at P xs d (λ k. h (suc k)) x i
 
-at_in : {X : Type 0} (xs : List X) (i : ℕ) (d : X) → i < length xs → In (get_or xs i d) xs
+pub at_in : {X : Type 0} (xs : List X) (i : ℕ) (d : X) → i < length xs → In (get_or xs i d) xs
 at_in [] i d h = absurd (omega arith)
 at_in (x ∷ xs) zero d h = inl refl
 at_in (x ∷ xs) (suc i) d h = inr (at_in xs i d (omega arith))

@@ -80,7 +80,7 @@ kinds_are (x ∷ ts) (suc zero) = two_tests x.kind
 kinds_are (x ∷ ts) (suc (suc n)) = kinds_are ts (suc n)
 
 -- only a number names an IRI
-iri_number : (ts : List Term) (n : ℕ) → is_iri_kind (named ts n).kind ≡ true → is_number ts n ≡ true
+pub iri_number : (ts : List Term) (n : ℕ) → is_iri_kind (named ts n).kind ≡ true → is_number ts n ≡ true
 iri_number ts n h = go (term_at ts n) h
   where
     go : (o : Option Term) → is_iri_kind (unwrap_or o no_term).kind ≡ true → is_some o ≡ true

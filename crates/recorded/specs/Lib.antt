@@ -2,3 +2,4 @@ pub mod ByNumber
 pub mod ByTerm
 pub mod Questions
 pub mod Recorded
+pub mod Rounds

@@ -1,3 +1,4 @@
+ghost use Rattle.recorded.specs.Rounds.{CompleteIsAnswered, CompleteRoundsAnswer};
 ghost use Rattle.recorded.specs.Questions.{QuestionsAreNumbered, TermsAreAsked, EnteredTermsAreKnown, LookupsKeepNumbers, EvaluatedQuestionsAnswer};
 ghost use Rattle.recorded.specs.Recorded.{FreshIsRecorded, EnteringKeepsIt, TellingIsLawful, NotingKeepsIt, LookingKeepsIt, RecordIsOfItsAddresses};
 ghost use Rattle.recorded.specs.ByTerm.{NumbersAskTheSame, RecordAnswers, EvaluationAnswers, EvaluationCounts};
@@ -48,4 +49,10 @@ pub fn questions_are_numbered()
 // So what an evaluation answers about it is what it has over the whole Web, where all that was marked is recorded as found or absent.
 pub fn evaluated_questions_answer<C>()
     ensures { EvaluatedQuestionsAnswer C }
+{}
+
+// That is so at the end of a round that finds none of it missing from the record, and none broken or unfit.
+pub fn complete_rounds_answer<C>()
+    ensures answered { CompleteIsAnswered }
+    ensures table { CompleteRoundsAnswer C }
 {}

@@ -4,6 +4,6 @@
 mod laws;
 
 pub use laws::{
-    evaluated_questions_answer, numbers_ask_the_same, numbers_name_terms, questions_are_numbered,
-    record_answers, record_is_kept, telling_is_lawful,
+    complete_rounds_answer, evaluated_questions_answer, numbers_ask_the_same, numbers_name_terms,
+    questions_are_numbered, record_answers, record_is_kept, telling_is_lawful,
 };
