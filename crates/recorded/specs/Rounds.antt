@@ -25,7 +25,9 @@ Complete s marks = Lowest s marks None × (first_where (is_spoilt marks) s.entri
 
 -- Then each is recorded as found or absent.
 abbrev pub CompleteIsAnswered : Type 0
-CompleteIsAnswered = (s : State) (h : Shelf) (marks : List Bool) → Lends s h → Complete s marks → (n : ℕ) → on_shelf h n ≡ true → is_marked marks n → Answered s n
+CompleteIsAnswered =
+    (s : State) (h : Shelf) (marks : List Bool) → Lends s h → Complete s marks
+    → (n : ℕ) → on_shelf h n ≡ true → is_marked marks n → Answered s n
 
 -- So the table of an evaluation that has marked them has the weights and all solutions that the question has over the whole Web.
 abbrev pub CompleteRoundsAnswer : Type 0 → Type 0
