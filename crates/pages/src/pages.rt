@@ -10,4 +10,6 @@ pub struct Pages<'a> {
 
 // A file that is longer than 65,536 bytes. The one reason for which a file is refused: an enum of one variant would be no plainer.
 #[derive(Clone, Copy)]
-pub struct TooLong;
+pub struct TooLong {
+    pub length: usize,
+}

@@ -25,10 +25,10 @@ impl TooLong {
 
 impl<'a> Pages<'a> {
     pub fn new(file: &'a [u8]) -> Result<Pages<'a>, TooLong>
-        ensures { MatchResult result (λ p. Made file.now p.file.now) (λ _. 65536 < length file.now) }
+        ensures { MatchResult result (λ p. Made file.now p.file.now) (λ e. (65536 < length file.now) × (e.length ≡ length file.now)) }
     {
         if file.len() > 65536 {
-            return Err(TooLong);
+            return Err(TooLong { length: file.len() });
         }
         Ok(Pages { file })
     }

@@ -33,7 +33,7 @@ fn longest_file(rt: HostRuntime) -> Result<(), Fail> {
     let Err(refused) = Pages::new(file.as_slice()) else {
         return Err(Fail::new("a file over the limit is taken"));
     };
-    assert!(rt; refused.number() == 16);
+    assert!(rt; refused.number() == 16 && refused.length == 65537);
     Ok(())
 }
 
