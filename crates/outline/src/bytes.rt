@@ -2,6 +2,7 @@
 ghost use Rattle.std.specs.Prelude.{decimal};
 ghost use Rattle.outline.specs.Outlined.{Adds};
 
+use itoa::Buffer;
 use std::alloc::AllocError;
 
 // The question and `out` are handed on side by side. Tried as one struct that lends both: each method then has to promise too that it keeps the question, and
@@ -12,11 +13,11 @@ pub fn put(bytes: &[u8], out: &mut Vec<u8>) -> Result<(), AllocError>
     out.extend_from_slice(bytes)
 }
 
-// In decimal, without leading zeros. `write_number` of telling is alike, over u64: each is one call of `to_string`, and a crate of its own for
-// two lines would be no plainer.
+// In decimal, without leading zeros. The digits lie on the stack, so memory runs out only where `out` grows. `write_number` of telling is alike, over u64
+// and by `to_string`: a crate of its own for two lines would be no plainer.
 pub fn put_number(n: usize, out: &mut Vec<u8>) -> Result<(), AllocError>
     ensures { Adds result out.old.items out.new.items (decimal n) }
 {
-    let digits = n.to_string(*out.allocator())?;
-    put(digits.as_bytes(), out)
+    let mut digits = Buffer::new();
+    put(digits.format(n).as_bytes(), out)
 }
