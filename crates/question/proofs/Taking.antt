@@ -1,5 +1,5 @@
 -- One token is passed, or it is at fault.
-use Rattle.std.proofs.Common.{◌≡◌, ℕ, ◌+◌, ◌<◌, true, false, cond, List, [], ◌∷◌, map, Some, Ok, Err, Result, MatchResult, IsErrAnd, sym, refl, ap, ◌∙◌, subst, arith, length}
+use Rattle.std.proofs.Common.{◌≡◌, ℕ, ◌+◌, ◌<◌, ◌≤◌, true, false, cond, List, [], ◌∷◌, map, Some, Ok, Err, Result, MatchResult, IsErrAnd, sym, refl, ap, ◌∙◌, subst, arith, length}
 use Rattle.room.specs.Items.{items}
 use Rattle.tokens.specs.declared.token.Token.{Token}
 use Rattle.tokens.specs.declared.token.Token.TheVariants.{Iri, Literal, Variable, OpenBrace, CloseBrace, OpenParen, CloseParen, Dot, Bar, Slash, Caret, Star, Bang, Optional, Union, Wrong, End}
@@ -14,7 +14,7 @@ use Rattle.grammar.specs.Reading.{words}
 use Rattle.grammar.specs.Machine.{the, Reaches}
 use Rattle.grammar.proofs.Moves.{reach_stay, reach_take, same_is, same_refl, differ}
 use Rattle.question.specs.declared.reader.Reader.{Reader}
-use Rattle.question.specs.Views.{text_of, seen_of, view, Idle, Because, Failed}
+use Rattle.question.specs.Views.{View, text_of, seen_of, view, Idle, Because, Failed}
 use Rattle.question.specs.Arena.{name_of, term_of}
 use Rattle.question.specs.Outcomes.{Outcome, Took}
 use Rattle.question.specs.Admission.{Passed, Admission, Admitted, Over}
@@ -85,22 +85,30 @@ said_end r h =
 pub not_last : (text : List ℕ) (l : Lexeme) (t : Token) → same l.token t ≡ true → final (saying t []) ≡ false → final (said text l) ≡ false
 not_last text l t e h = final_saying l.token (part text (l.start + 1) (inner l)) [] ∙ ap (λ u. final (saying u [])) (same_is l.token t e) ∙ h
 
--- the reader is at the token behind the one that it was at
-pub record Advanced (p m : Reader) : Type 0 where
-  pub first : First (text_of p) p.next.end m.next
+-- at most the token at hand is another one
+pub record Still (p m : Reader) : Type 0 where
   pub depth : m.depth ≡ p.depth
   pub full : m.full ≡ p.full
   pub built : m.built ≡ p.built
 
-pub seen_still : {p m : Reader} → Advanced p m → seen_of m ≡ seen_of p
+pub seen_still : {p m : Reader} → Still p m → seen_of m ≡ seen_of p
 seen_still h = λ i. record {
   depth = h.depth i;
   names = map (name_of (items (h.built i).text)) (items (h.built i).names);
   terms = map (term_of (items (h.built i).text)) (items (h.built i).terms);
 }
 
-pub advanced : {p m : Reader} {text : List ℕ} → text ≡ text_of p → First text p.next.end m.next → m.depth ≡ p.depth → m.full ≡ p.full → m.built ≡ p.built → Advanced p m
-advanced {p} {m} e f d u b = record { first = subst (λ t. First t p.next.end m.next) e f; depth = d; full = u; built = b }
+-- what a reader has that is at this token
+abbrev at_lexeme : Reader → Lexeme → View
+at_lexeme r l = record {
+  spots = ahead (text_of r) l;
+  start = l.start;
+  seen = seen_of r;
+  paths = items r.built.paths;
+  patterns = items r.built.patterns;
+  count = r.built.nodes;
+  full = r.full;
+}
 
 module _ (p : Reader) (t : Token) (is : same p.next.token t ≡ true) (lasts : final (saying t []) ≡ false) where
   abbrev x : Word
@@ -109,47 +117,42 @@ module _ (p : Reader) (t : Token) (is : same p.next.token t ≡ true) (lasts : f
   goes_on : final x ≡ false
   goes_on = not_last (text_of p) p.next t is lasts
 
-  pub passed : {m : Reader} → Advanced p m → Passed p.next m
-  passed on = record { some = p.long goes_on; behind = on.first.forward; few = omega (arith, p.few, ap (λ q. length (items q.terms)) on.built) }
+  pub passed : {m : Reader} → Still p m → p.next.end ≤ m.next.start → Passed p.next m
+  passed still behind = record { some = p.long goes_on; behind = behind; few = omega (arith, p.few, ap (λ q. length (items q.terms)) still.built) }
 
-  module _ {m b : Reader} {n : ℕ} (ok : Admitted (said (text_of p) p.next) m b n) (on : Advanced p m) where
-    text_is : text_of p ≡ text_of b
-    text_is = sym (ok.text ∙ ap (λ q. items q.text) on.built)
-
-    next_is : m.next ≡ b.next
-    next_is = sym ok.next
-
-    spots_are : ahead (text_of p) p.next ≡ record { at = p.next.start; word = x } ∷ ahead (text_of b) b.next
+  -- the token was admitted, and the next one was cut
+  module _ {m b : Reader} {l : Lexeme} {n : ℕ} (still : Still p m) (ok : Admitted (said (text_of p) p.next) m b n) (first : First (text_of b) p.next.end l) where
+    spots_are : ahead (text_of p) p.next ≡ record { at = p.next.start; word = x } ∷ ahead (text_of b) l
     spots_are =
         ap (λ b. record { at = p.next.start; word = x } ∷ cond b [] (tokens_from (text_of p) p.next.end)) goes_on
-        ∙ ap (λ v. record { at = p.next.start; word = x } ∷ v) (on.first.stream ∙ (λ i. ahead (text_is i) (next_is i)))
+        ∙ ap (λ v. record { at = p.next.start; word = x } ∷ v) (ap (λ u. tokens_from u p.next.end) (sym (ok.text ∙ ap (λ q. items q.text) still.built)) ∙ first.stream)
 
     sorted : sort x ≡ t
     sorted = next_sort p ∙ same_is p.next.token t is
 
-    falls : p.next.start < b.next.start
-    falls = omega (arith, p.long goes_on, ap (λ l. l.start) ok.next, on.first.forward)
+    falls : p.next.start < l.start
+    falls = omega (arith, p.long goes_on, first.forward)
 
-    idle : Idle (view p) (view b)
+    idle : Idle (view p) (at_lexeme b l)
     idle = record {
-      paths = ok.idle.paths ∙ ap (λ q. items q.paths) on.built;
-      patterns = ok.idle.patterns ∙ ap (λ q. items q.patterns) on.built;
-      count = ok.idle.count ∙ ap (λ q. q.nodes) on.built;
-      full = ok.idle.full ∙ on.full;
+      paths = ok.idle.paths ∙ ap (λ q. items q.paths) still.built;
+      patterns = ok.idle.patterns ∙ ap (λ q. items q.patterns) still.built;
+      count = ok.idle.count ∙ ap (λ q. q.nodes) still.built;
+      full = ok.idle.full ∙ still.full;
     }
 
     seen_is : seen_of b ≡ after (seen_of p) x
-    seen_is = ok.seen ∙ ap (λ s. after s x) (seen_still on)
+    seen_is = ok.seen ∙ ap (λ s. after s x) (seen_still still)
 
-    pub took : Outcome (the t) (view p) (λ i. Took t (view p) (view b) i) (Ok n)
+    pub took : Outcome (the t) (view p) (λ i. Took t (view p) (at_lexeme b l) i) (Ok n)
     took = record {
       is = record {
         word = x;
         sorted = sorted;
         reads = ap words spots_are;
         went = record {
-          reach = λ ρ. subst (λ v. Reaches (the t ∷ ρ) v ρ (words (ahead (text_of b) b.next))) (sym (ap words spots_are)) (reach_take t x (ap (same t) sorted ∙ same_refl t) reach_stay);
-          passes = record { passed = record { at = p.next.start; word = x } ∷ []; split = spots_are; clear = (ap (λ s. limit s x) (sym (seen_still on)) ∙ ok.clear, tt); gathers = sym seen_is };
+          reach = λ ρ. subst (λ v. Reaches (the t ∷ ρ) v ρ (words (ahead (text_of b) l))) (sym (ap words spots_are)) (reach_take t x (ap (same t) sorted ∙ same_refl t) reach_stay);
+          passes = record { passed = record { at = p.next.start; word = x } ∷ []; split = spots_are; clear = (ap (λ s. limit s x) (sym (seen_still still)) ∙ ok.clear, tt); gathers = sym seen_is };
           kept = kept_idle idle (omega (arith, falls));
         };
         seen = seen_is;
@@ -186,13 +189,16 @@ module _ (p : Reader) (t : Token) where
   pub unlike : same p.next.token t ≡ false → Failed (the t) (view p) (record { reason = NoQuestion; at = p.next.start })
   unlike h = stopped NoQuestion (ap (same t) (next_sort p) ∙ same_sym p.next.token t h)
 
-  pub over : {m : Reader} {why : Reason} → Over (said (text_of p) p.next) m why → Advanced p m → same p.next.token t ≡ true → Failed (the t) (view p) (record { reason = why; at = p.next.start })
-  over {m} {why} h on is = stopped why (because t why (seen_of p) (said (text_of p) p.next) (ap (same t) (next_sort p ∙ same_is p.next.token t is) ∙ same_refl t) h.apart (ap (λ s. limit s (said (text_of p) p.next)) (sym (seen_still on)) ∙ h.limited))
+  pub over : {m : Reader} {why : Reason} → Over (said (text_of p) p.next) m why → Still p m → same p.next.token t ≡ true → Failed (the t) (view p) (record { reason = why; at = p.next.start })
+  over {m} {why} h still is = stopped why (because t why (seen_of p) (said (text_of p) p.next) (ap (same t) (next_sort p ∙ same_is p.next.token t is) ∙ same_refl t) h.apart (ap (λ s. limit s (said (text_of p) p.next)) (sym (seen_still still)) ∙ h.limited))
 
--- a token that was admitted is passed; one that was not is at fault there
-pub told : (p : Reader) (t : Token) → same p.next.token t ≡ true → final (saying t []) ≡ false → {m b : Reader} → Advanced p m → (r : Result ℕ Reason) (s : Result ℕ Fault) (Made : Reason → Fault → Type 0)
+-- what came of a token: it was admitted, or it is at fault
+abbrev Came : (p : Reader) (t : Token) (m b : Reader) → Result ℕ Fault → Type 0
+Came p t m b o = MatchResult o (λ n. Admitted (said (text_of p) p.next) m b n) (λ f. Failed (the t) (view p) f)
+
+pub told : (p : Reader) (t : Token) → same p.next.token t ≡ true → {m b : Reader} → Still p m → (r : Result ℕ Reason) (s : Result ℕ Fault) (Made : Reason → Fault → Type 0)
     → Admission (said (text_of p) p.next) m b r → MatchResult r (λ n. s ≡ Ok n) (λ why. IsErrAnd s (Made why)) → ((why : Reason) (f : Fault) → Made why f → f ≡ record { reason = why; at = p.next.start })
-    → Outcome (the t) (view p) (λ n. Took t (view p) (view b) n) s
-told p t is lasts {m} {b} on (Ok n) s Made h same_answer made = subst (Outcome (the t) (view p) (λ n. Took t (view p) (view b) n)) (sym same_answer) (took p t is lasts h.is on)
-told p t is lasts {m} {b} on (Err why) (Ok n) Made h never made = absurd never
-told p t is lasts {m} {b} on (Err why) (Err f) Made h at made = record { is = subst (Failed (the t) (view p)) (sym (made why f at)) (over p t h.is on is) }
+    → (o : Result ℕ Fault) → s ≡ o → Came p t m b o
+told p t is {m} {b} still (Ok n) s Made h same_answer made o was = subst (Came p t m b) (sym same_answer ∙ was) h.is
+told p t is {m} {b} still (Err why) (Ok n) Made h never made o was = absurd never
+told p t is {m} {b} still (Err why) (Err f) Made h at made o was = subst (Came p t m b) was (subst (Failed (the t) (view p)) (sym (made why f at)) (over p t h.is still is))

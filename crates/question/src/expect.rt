@@ -7,7 +7,7 @@ ghost use Rattle.question.specs.Outcomes.{Takes};
 
 use crate::reader::Reader;
 use grammar::{Fault, Reason};
-use tokens::{Token, next};
+use tokens::{Lexeme, Token, next};
 
 impl Reader {
     // Passes the next token, which is to be of this sort, and tells the number of a term or a variable. Of another sort it tells 0, which no caller
@@ -24,7 +24,14 @@ impl Reader {
                 at,
             });
         }
+        // Nothing is next until the token is within its limits: a refused text isn't cut any further.
+        self.next = Lexeme {
+            token: Token::End,
+            start: passed.end,
+            end: passed.end,
+        };
+        let number = self.admit(passed).map_err(|reason| Fault { reason, at })?;
         self.next = next(self.built.text.as_slice(), passed.end);
-        self.admit(passed).map_err(|reason| Fault { reason, at })
+        Ok(number)
     }
 }
