@@ -1,4 +1,4 @@
-use std::process::Abort;
+use std::test::Fail;
 use weights::{Count, Presence, Weight};
 
 const TOP: u32 = 2_147_483_647;
@@ -25,20 +25,33 @@ const PRESENCES: [Case; 4] = [
     (1, 1, 1, 1, true),
 ];
 
-fn check_kind(rt: &impl Abort, kind: &impl Weight, cases: &[Case]) {
+fn check(holds: bool, note: &'static str) -> Result<(), Fail> {
+    if holds { Ok(()) } else { Err(Fail::new(note)) }
+}
+
+fn check_kind(kind: &impl Weight, cases: &[Case]) -> Result<(), Fail> {
     for (left, right, sum, product, first) in cases {
-        assert!(rt; kind.sum(*left, *right) == *sum && kind.product(*left, *right) == *product);
-        assert!(rt; kind.first(*left, *right) == *first && kind.is_zero(*left) == (*left == 0));
+        check(
+            kind.sum(*left, *right) == *sum && kind.product(*left, *right) == *product,
+            "a sum or a product is another",
+        )?;
+        check(
+            kind.first(*left, *right) == *first && kind.is_zero(*left) == (*left == 0),
+            "an order or a zero is another",
+        )?;
     }
-    assert!(rt; kind.zero() == 0 && kind.one() == 1);
+    check(
+        kind.zero() == 0 && kind.one() == 1,
+        "zero or one is another",
+    )
 }
 
 #[test]
-fn counts(rt: HostRuntime) {
-    check_kind(&rt, &Count, &COUNTS);
+fn counts(_rt: HostRuntime) -> Result<(), Fail> {
+    check_kind(&Count, &COUNTS)
 }
 
 #[test]
-fn presences(rt: HostRuntime) {
-    check_kind(&rt, &Presence, &PRESENCES);
+fn presences(_rt: HostRuntime) -> Result<(), Fail> {
+    check_kind(&Presence, &PRESENCES)
 }
